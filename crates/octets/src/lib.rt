@@ -1,0 +1,207 @@
+// Bytes in lent slices: numbers, parts, stores and comparisons.
+ghost use mathlib.Core.Path.{_≡_};
+ghost use mathlib.Core.List.{[], _∷_};
+ghost use Prim.Native.Nat.{_+_, _-_, _*_, _≤_, min};
+ghost use lib.ListN.{length, drop, replicate};
+ghost use lib.Dec.{eqb, ltb};
+ghost use Rattle.octets.specs.Octets.{byteAt, part, put, bigEndian, numberAt, same, isBytes, isShort};
+
+// ---- reading
+
+// The byte at a place; 0 past the end, so that a caller needs no test of the length first.
+pub fn byte(s: &[u8], at: usize) -> u8
+    ensures { λ r. ⌜ r ≡ byteAt (now (s .entry)) at ⌝ }
+{
+    if at < s.len() {
+        return s[at];
+    }
+    0
+}
+
+// The bytes from a place on; none past the end.
+pub fn after(s: &[u8], at: usize) -> &[u8]
+    ensures { λ r. ⌜ now r ≡ drop at (now (s .entry)) ⌝ }
+{
+    if at < s.len() {
+        return &s[at..];
+    }
+    &s[..0]
+}
+
+// The n bytes from a place on; fewer where the end comes first.
+pub fn part(s: &[u8], at: usize, n: usize) -> &[u8]
+    ensures { λ r. ⌜ now r ≡ part (now (s .entry)) at n ⌝ }
+{
+    let rest = after(s, at);
+    if n < rest.len() {
+        return &rest[..n];
+    }
+    rest
+}
+
+// Four bytes as a number: no reads, so that the arithmetic is proved by itself.
+fn word(a: u8, b: u8, c: u8, d: u8) -> u32
+    ensures { λ r. ⌜ r ≡ ((a * 256 + b) * 256 + c) * 256 + d ⌝ }
+{
+    a as u32 * 16777216 + b as u32 * 65536 + c as u32 * 256 + d as u32
+}
+
+// The number in the four bytes from a place on. A leaf: its callers know that the bytes are there, and no answer would serve where they aren't.
+pub fn read32(s: &[u8], at: usize) -> u32
+    requires { ⌜ at + 4 ≤ length (now s) ⌝ }
+    ensures { λ r. ⌜ r ≡ numberAt (now (s .entry)) at 4 ⌝ }
+{
+    word(s[at], s[at + 1], s[at + 2], s[at + 3])
+}
+
+// The number in the eight bytes from a place on; a leaf, as read32.
+pub fn read64(s: &[u8], at: usize) -> u64
+    requires { ⌜ at + 8 ≤ length (now s) ⌝ }
+    ensures { λ r. ⌜ r ≡ numberAt (now (s .entry)) at 8 ⌝ }
+{
+    let a = read32(s, at) as u64;
+    let b = read32(s, at + 4) as u64;
+    a * 4294967296 + b
+}
+
+// ---- writing
+
+// The four bytes of a number.
+pub fn bytes32(v: u32) -> [u8; 4]
+    ensures { λ r. ⌜ r ≡ bigEndian 4 v ⌝ }
+{
+    [
+        (v / 16777216 % 256) as u8,
+        (v / 65536 % 256) as u8,
+        (v / 256 % 256) as u8,
+        (v % 256) as u8,
+    ]
+}
+
+// The eight bytes of a number.
+pub fn bytes64(v: u64) -> [u8; 8]
+    ensures { λ r. ⌜ r ≡ bigEndian 8 v ⌝ }
+{
+    [
+        (v / 72057594037927936 % 256) as u8,
+        (v / 281474976710656 % 256) as u8,
+        (v / 1099511627776 % 256) as u8,
+        (v / 4294967296 % 256) as u8,
+        (v / 16777216 % 256) as u8,
+        (v / 65536 % 256) as u8,
+        (v / 256 % 256) as u8,
+        (v % 256) as u8,
+    ]
+}
+
+// How many of n bytes fit from a place on.
+fn fitting(length: usize, at: usize, n: usize) -> usize
+    ensures { λ r. ⌜ r ≡ min (length - at) n ⌝ }
+{
+    if length <= at {
+        return 0;
+    }
+    if length - at < n {
+        return length - at;
+    }
+    n
+}
+
+// Copies s to the bytes from a place on; what would fall past the end is dropped.
+pub fn copy(t: &mut [u8], at: usize, s: &[u8])
+    ensures { λ _. ⌜ now (t .exit) ≡ put (now (t .entry)) at (now (s .entry)) ⌝ }
+{
+    let n = fitting(t.len(), at, s.len());
+    let mut i = 0;
+    while i < n {
+        t[at + i] = s[i];
+        i += 1;
+    }
+}
+
+// Stores v in the n bytes from a place on; what would fall past the end is dropped.
+pub fn fill(t: &mut [u8], at: usize, n: usize, v: u8)
+    ensures { λ _. ⌜ now (t .exit) ≡ put (now (t .entry)) at (replicate n v) ⌝ }
+{
+    let m = fitting(t.len(), at, n);
+    let mut i = 0;
+    while i < m {
+        t[at + i] = v;
+        i += 1;
+    }
+}
+
+// Stores one byte.
+pub fn write8(t: &mut [u8], at: usize, v: u8)
+    ensures { λ _. ⌜ now (t .exit) ≡ put (now (t .entry)) at (v ∷ []) ⌝ }
+{
+    if at < t.len() {
+        t[at] = v;
+    }
+}
+
+// Stores the four bytes of a number.
+pub fn write32(t: &mut [u8], at: usize, v: u32)
+    ensures { λ _. ⌜ now (t .exit) ≡ put (now (t .entry)) at (bigEndian 4 v) ⌝ }
+{
+    let bytes = bytes32(v);
+    copy(t, at, &bytes);
+}
+
+// Stores the eight bytes of a number.
+pub fn write64(t: &mut [u8], at: usize, v: u64)
+    ensures { λ _. ⌜ now (t .exit) ≡ put (now (t .entry)) at (bigEndian 8 v) ⌝ }
+{
+    let bytes = bytes64(v);
+    copy(t, at, &bytes);
+}
+
+// ---- comparing
+
+// Whether two slices hold the same bytes.
+pub fn equal(a: &[u8], b: &[u8]) -> bool
+    ensures { λ r. ⌜ r ≡ same (now (a .entry)) (now (b .entry)) ⌝ }
+{
+    if a.len() != b.len() {
+        return false;
+    }
+    for i in 0..a.len() {
+        if a[i] != b[i] {
+            return false;
+        }
+    }
+    true
+}
+
+// Whether the bytes from a place on start with those of b.
+pub fn equal_at(s: &[u8], at: usize, b: &[u8]) -> bool
+    ensures { λ r. ⌜ r ≡ same (part (now (s .entry)) at (length (now (b .entry)))) (now (b .entry)) ⌝ }
+{
+    equal(part(s, at, b.len()), b)
+}
+
+fn is(a: usize, b: usize) -> bool
+    ensures { λ r. ⌜ r ≡ eqb a b ⌝ }
+{
+    a == b
+}
+
+// Whether a slice has n bytes. By a call, since only a function that calls is told at its entry that a slice's elements are bytes.
+pub fn sized(s: &[u8], n: usize) -> bool
+    ensures { λ r. ⌜ r ≡ isBytes n (now (s .entry)) ⌝ }
+{
+    is(s.len(), n)
+}
+
+fn less(a: usize, b: usize) -> bool
+    ensures { λ r. ⌜ r ≡ ltb a b ⌝ }
+{
+    a < b
+}
+
+// Whether a slice has fewer than n bytes.
+pub fn short(s: &[u8], n: usize) -> bool
+    ensures { λ r. ⌜ r ≡ isShort n (now (s .entry)) ⌝ }
+{
+    less(s.len(), n)
+}

@@ -1,0 +1,5 @@
+pub mod Forms
+pub mod Cases
+pub mod Fields
+pub mod Writing
+pub mod RoundTrip

@@ -1,0 +1,13 @@
+use mathlib.Core.Path.{_≡_, sym}
+use Rattle.svsc.specs.Reading.{onlyIf}
+use Rattle.svsc.proofs.reader.only.Statement.{statement}
+use Rattle.svsc.proofs.reader.only.Tie as tie
+
+returns : tie.Need-returns
+returns c = rw (c .if1 .taken)
+
+returns-2 : tie.Need-returns-2
+returns-2 c = rw (c .if1 .left)
+
+pub only-spec : {M : Type 1} → statement M
+only-spec = tie.close (tie.spec returns returns-2)

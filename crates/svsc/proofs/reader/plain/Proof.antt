@@ -1,0 +1,94 @@
+use mathlib.Core.Path.{_≡_, refl, sym, ap, ap₂, _∙_}
+use mathlib.Core.Option.{some}
+use Rattle.svsc.specs.Reading.{answer}
+use Rattle.svsc.proofs.Forms.{single, taken, refused, malformed, lease-request, lease-response, extension-response, establish-response, reaches, reaches-two, type-first, no-type, above-7, past-types}
+use Rattle.svsc.specs.Messages.{VersionAnswer, LeaseGranted, ExtensionGranted, EstablishRequest, EstablishRefused, Established, readings}
+use native.Mathlib.Omega.{arith}
+use lib.Dec.{eqb, leb}
+use lib.ListN.{length}
+use borrow.Author.Needs.{needs}
+use Rattle.svsc.proofs.reader.plain.Statement.{statement}
+use Rattle.svsc.proofs.reader.plain.Tie as tie
+
+only-requires : tie.Need-only-requires
+only-requires c κs = search needs
+
+only-requires-2 : tie.Need-only-requires-2
+only-requires-2 c κs = search needs
+
+only-requires-3 : tie.Need-only-requires-3
+only-requires-3 c κs = search needs
+
+only-requires-4 : tie.Need-only-requires-4
+only-requires-4 c κs = search needs
+
+only-requires-5 : tie.Need-only-requires-5
+only-requires-5 c κs = search needs
+
+only-requires-6 : tie.Need-only-requires-6
+only-requires-6 c κs = search needs
+
+returns : tie.Need-returns
+unfolding readings
+returns c =
+    let a = c .before .before .before in
+    let m = a .args .m .now in
+    single m 8 (a .pre .0 ∙ c .before .match .keys1) (eqb (length m) 49) _ _ _ (c .only .ensures) refl refl
+
+returns-2 : tie.Need-returns-2
+unfolding readings
+returns-2 c =
+    let a = c .before .before .before in
+    let m = a .args .m .now in
+    single m 9 (a .pre .0 ∙ c .before .match .keys2) (eqb (length m) 1) _ _ _ (c .only2 .ensures) refl refl
+
+returns-3 : tie.Need-returns-3
+unfolding readings
+returns-3 c =
+    let a = c .before .before .before in
+    let m = a .args .m .now in
+    single m 10 (a .pre .0 ∙ c .before .match .keys3) (eqb (length m) 1) _ _ _ (c .only3 .ensures) refl refl
+
+returns-4 : tie.Need-returns-4
+unfolding readings
+returns-4 c =
+    let a = c .before .before .before in
+    let m = a .args .m .now in
+    single m 11 (a .pre .0 ∙ c .before .match .keys4) (leb (length m) 65534) _ _ _ (c .only4 .ensures) refl refl
+
+returns-5 : tie.Need-returns-5
+unfolding readings
+returns-5 c =
+    let a = c .before .before .before in
+    let m = a .args .m .now in
+    single m 12 (a .pre .0 ∙ c .before .match .keys5) (leb (length m) 65534) _ _ _ (c .only5 .ensures) refl refl
+
+returns-6 : tie.Need-returns-6
+unfolding readings
+returns-6 c =
+    let a = c .before .before .before in
+    let m = a .args .m .now in
+    single m 13 (a .pre .0 ∙ c .before .match .keys6) (eqb (length m) 1) _ _ _ (c .only6 .ensures) refl refl
+
+returns-7 : tie.Need-returns-7
+returns-7 c =
+    let a = c .before .before in
+    malformed (a .args .m .now) (a .args .kind) (a .pre .0) (past-types (a .args .m .now) (a .args .kind) (omega arith))
+
+pub plain-spec : {M : Type 1} → statement M
+plain-spec =
+    tie.close
+    (tie.spec
+    only-requires
+    only-requires-2
+    only-requires-3
+    only-requires-4
+    only-requires-5
+    only-requires-6
+    returns
+    returns-2
+    returns-3
+    returns-4
+    returns-5
+    returns-6
+    returns-7)

@@ -1,0 +1,33 @@
+//! Counts of what a test reached, by name and answer number.
+
+use std::collections::BTreeMap;
+use std::fmt;
+
+#[derive(Default)]
+pub struct Tally(BTreeMap<&'static str, BTreeMap<u32, u64>>);
+
+impl Tally {
+    pub fn count(&mut self, name: &'static str, number: u32) {
+        *self.0.entry(name).or_default().entry(number).or_default() += 1;
+    }
+
+    /// Asserts that the name got this answer at least once, or, if that is expected, never.
+    pub fn assert_reached(&self, name: &str, number: u32, expected: bool) {
+        let reached = self.0.get(name).is_some_and(|answers| answers.contains_key(&number));
+        assert_eq!(reached, expected, "whether {name} was answered with {number}\n{self}");
+    }
+}
+
+impl fmt::Display for Tally {
+    fn fmt(&self, out: &mut fmt::Formatter) -> fmt::Result {
+        for (name, answers) in &self.0 {
+            write!(out, "{name:>28}")?;
+            for (number, count) in answers {
+                write!(out, "  {count:>8} answered {number}")?;
+            }
+            writeln!(out)?;
+        }
+        let calls: u64 = self.0.values().flat_map(BTreeMap::values).sum();
+        write!(out, "{calls:>38} calls")
+    }
+}

@@ -1,0 +1,29 @@
+//! include/svsc.h as a C compiler sees it: host/c/svsc_check.c, compiled, linked with the archive and run.
+
+use std::path::Path;
+use std::process::Command;
+
+#[test]
+fn the_header_and_the_archive_serve_a_c_program() {
+    let host = Path::new(env!("CARGO_MANIFEST_DIR")).join("..");
+    let program = Path::new(env!("CARGO_TARGET_TMPDIR")).join("svsc_check");
+    let compiler = std::env::var("CC").unwrap_or("cc".into());
+    run(Command::new(compiler)
+        .args(["-std=c11", "-Wall", "-Wextra", "-Werror", "-pedantic", "-I"])
+        .arg(host.join("../include"))
+        .arg("-o")
+        .arg(&program)
+        .arg(host.join("c/svsc_check.c"))
+        .arg(engine::ARCHIVE));
+    run(&mut Command::new(program));
+}
+
+/// Runs the command to its end, which must be a success.
+fn run(command: &mut Command) {
+    let name = command.get_program().to_owned();
+    let output =
+        command.output().unwrap_or_else(|error| panic!("{name:?} doesn't run ({error}): a C compiler is needed"));
+    let text = String::from_utf8_lossy(&[output.stdout, output.stderr].concat()).into_owned();
+    println!("{text}");
+    assert!(output.status.success(), "{name:?}: {}", output.status);
+}

@@ -1,0 +1,28 @@
+//! Links the proved archive: from build/lib of the repository, or from the folder (an absolute path) that
+//! CRONDELITH_LIB names.
+
+use std::env;
+use std::path::{Path, PathBuf};
+
+const FOLDER_VARIABLE: &str = "CRONDELITH_LIB";
+
+fn main() {
+    println!("cargo::rerun-if-env-changed={FOLDER_VARIABLE}");
+    let folder = env::var_os(FOLDER_VARIABLE).map_or_else(built_here, PathBuf::from);
+    let archive = folder.join("libsvsc.a");
+    println!("cargo::rerun-if-changed={}", archive.display());
+    if !archive.is_file() {
+        println!("cargo::error=no {}: run ./test in the repository, which builds it", archive.display());
+        return;
+    }
+    println!("cargo::rustc-link-search=native={}", folder.display());
+    println!("cargo::rustc-link-lib=static=svsc");
+    println!("cargo::rustc-env=CRONDELITH_LINKED={}", archive.display());
+}
+
+/// This crate is host/engine of the repository.
+fn built_here() -> PathBuf {
+    let crate_folder = env::var("CARGO_MANIFEST_DIR").expect("cargo sets it");
+    let repository = Path::new(&crate_folder).ancestors().nth(2);
+    repository.expect("two folders up").join("build/lib")
+}
