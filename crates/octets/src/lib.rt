@@ -46,7 +46,8 @@ fn word(a: u8, b: u8, c: u8, d: u8) -> u32
     a as u32 * 16777216 + b as u32 * 65536 + c as u32 * 256 + d as u32
 }
 
-// The number in the four bytes from a place on. A leaf: its callers know that the bytes are there, and no answer would serve where they aren't.
+// The number in the four bytes from a place on. A leaf with a requires: its callers know that the bytes are there, and no answer
+// would serve where they aren't.
 pub fn read32(s: &[u8], at: usize) -> u32
     requires { ⌜ at + 4 ≤ length (now s) ⌝ }
     ensures { λ r. ⌜ r ≡ numberAt (now (s .entry)) at 4 ⌝ }

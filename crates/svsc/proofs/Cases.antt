@@ -2,14 +2,14 @@
 use Prim.Native.Nat.{ℕ}
 use mathlib.Core.Path.{_≡_, refl, sym, ap, _∙_}
 use mathlib.Core.Bool.{Bool, true, false, _&&_}
-use mathlib.Core.Option.{Option, none, some}
+use mathlib.Core.Option.{Option}
 use mathlib.Core.List.{List, [], _∷_}
 use types.Run.{OneOf, miss}
 use lib.ListN.{getD}
 use denote.Enum.Declared.{tagOf}
 use Rattle.octets.proofs.Tests.{and-true, and-false}
 use Rattle.svsc.proofs.Decoded.{the-type}
-use Rattle.svsc.specs.Messages.{Message, ProtocolVersion, VersionAnswer, LeaseRequest, LeaseRequestWithCookie, LeaseRefused, LeaseGranted, ExtensionRequest, ExtensionRefused, ExtensionGranted, EstablishRequest, EstablishRefused, Established, EstablishNotification, SessionEnd, SessionEndNotification, DataSend, DataReceive, Keepalive, readings, decode, isSome, fromPeer, sentByPeers}
+use Rattle.svsc.specs.Messages.{Message, VersionAnswer, LeaseRequest, LeaseRequestWithCookie, LeaseRefused, LeaseGranted, ExtensionRequest, ExtensionRefused, ExtensionGranted, EstablishRequest, EstablishRefused, Established, EstablishNotification, SessionEnd, SessionEndNotification, DataSend, DataReceive, Keepalive, decode, isSome, fromPeer, sentByPeers}
 use Rattle.svsc.specs.Reading.{Answer, answer, meaning, fields, fieldOf}
 use Rattle.svsc.specs.declared.Decoded.{Decoded}
 use Rattle.svsc.specs.declared.Decoded.the-variants as case

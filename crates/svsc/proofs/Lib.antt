@@ -2,4 +2,5 @@ pub mod Forms
 pub mod Cases
 pub mod Fields
 pub mod Writing
-pub mod RoundTrip
+pub mod WrittenThenRead
+pub mod ReadThenWritten

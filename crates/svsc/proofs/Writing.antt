@@ -1,6 +1,6 @@
 -- The ways out of the writers, over plain values. Assumes nothing.
 use Prim.Native.Nat.{ℕ, _+_, _-_, _≤_, _<_}
-use mathlib.Core.Path.{_≡_, refl, sym, ap₂, _∙_}
+use mathlib.Core.Path.{_≡_, sym, ap₂, _∙_}
 use mathlib.Core.Bool.{Bool, true, false, not}
 use mathlib.Core.Logic.{⊎-elim}
 use mathlib.Core.List.{List, [], _∷_, _++_, append-nil}
@@ -10,7 +10,7 @@ use lib.ListN.{length, length-append}
 use borrow.Author.Tests.{leb-true, leb-false, lt-ltb, le-ltb, le-leb, lt-leb, not-true, not-false}
 use Rattle.octets.specs.Octets.{put}
 use Rattle.octets.proofs.Tests.{le-or-lt}
-use Rattle.octets.proofs.Stores.{put-append, put-one, length-put}
+use Rattle.octets.proofs.Stores.{put-append, length-put}
 use Rattle.svsc.specs.Messages.{Message, wellFormed, encode}
 use Rattle.svsc.specs.Writing.{WriteOutcome, emit, write}
 

@@ -1,6 +1,6 @@
 -- What a writer leaves. 01 'Messages, by first byte', 'Answer numbers and their order'.
 use Prim.Native.Nat.{ℕ}
-use mathlib.Core.Bool.{Bool, true, false, not}
+use mathlib.Core.Bool.{Bool, not}
 use mathlib.Core.List.{List}
 use lib.ListN.{length}
 use lib.Dec.{ltb}

@@ -5,7 +5,8 @@ ghost use mathlib.Core.List.{[], _∷_};
 ghost use Prim.Native.Nat.{_+_, _-_, _*_, _≤_, _<_};
 ghost use lib.ListN.{length, getD, drop};
 ghost use Rattle.octets.specs.Octets.{part};
-ghost use Rattle.svsc.specs.Messages.{typeOf, decode, isSome, fromPeer, sentByPeers, isDigit, areDigits, isVersion, cookieBytes, keyBytes};
+ghost use Rattle.svsc.specs.Messages.{typeOf, decode, isSome, fromPeer, sentByPeers, isDigit, areDigits, isVersion};
+ghost use Rattle.svsc.specs.Messages.{cookieBytes, keyBytes};
 ghost use Rattle.svsc.specs.Reading.{answer, meaning, onlyIf, fieldOf};
 use crate::Decoded;
 
@@ -175,15 +176,9 @@ fn plain(m: &[u8], kind: u8) -> Decoded
     ensures { λ r. ⌜ meaning r (now (m .entry)) ≡ answer (decode (now (m .entry))) ⌝ }
 {
     match kind {
-        8 => only(
-            m.len() == 49,
-            Decoded::EstablishNotification,
-        ),
+        8 => only(m.len() == 49, Decoded::EstablishNotification),
         9 => only(m.len() == 1, Decoded::SessionEnd),
-        10 => only(
-            m.len() == 1,
-            Decoded::SessionEndNotification,
-        ),
+        10 => only(m.len() == 1, Decoded::SessionEndNotification),
         11 => only(m.len() <= crate::LONGEST, Decoded::DataSend),
         12 => only(m.len() <= crate::LONGEST, Decoded::DataReceive),
         13 => only(m.len() == 1, Decoded::Keepalive),
@@ -225,7 +220,20 @@ pub fn is_message(m: &[u8]) -> bool
 
 // The types that peers send.
 const SENT_BY_PEERS: [bool; 14] = [
-    false, true, true, false, true, false, true, false, false, true, false, true, false, true,
+    false,
+    true,
+    true,
+    false,
+    true,
+    false,
+    true,
+    false,
+    false,
+    true,
+    false,
+    true,
+    false,
+    true,
 ];
 
 fn sent_by_peers(kind: usize) -> bool
@@ -273,7 +281,10 @@ fn cookie_at(m: &[u8], at: usize, f: u32) -> &[u8]
 fn key_at(m: &[u8], at: usize, f: u32) -> &[u8]
     requires { ⌜ at ≤ 6 ⌝ }
     ensures { λ r. ⌜ now r
-        ≡ getD ([] ∷ part (now (m .entry)) at keyBytes ∷ part (now (m .entry)) (at + 16) keyBytes ∷ part (now (m .entry)) (at + 32) keyBytes ∷ []) f [] ⌝ }
+        ≡ getD ([] ∷ part (now (m .entry)) at keyBytes
+        ∷ part (now (m .entry)) (at + 16) keyBytes
+        ∷ part (now (m .entry)) (at + 32) keyBytes
+        ∷ []) f [] ⌝ }
 {
     match f {
         FIELD_SESSION => octets::part(m, at, crate::KEY),

@@ -6,7 +6,10 @@ ghost use Prim.Native.Nat.{_+_, _≤_};
 ghost use lib.ListN.{length};
 ghost use lib.Dec.{leb};
 ghost use Rattle.octets.specs.Octets.{bigEndian, put};
-ghost use Rattle.svsc.specs.Messages.{digits, ProtocolVersion, VersionAnswer, LeaseRequest, LeaseRequestWithCookie, LeaseRefused, LeaseGranted, ExtensionRequest, ExtensionRefused, ExtensionGranted, EstablishRequest, EstablishRefused, Established, EstablishNotification, SessionEnd, SessionEndNotification, DataSend, DataReceive, Keepalive};
+ghost use Rattle.svsc.specs.Messages.{digits, ProtocolVersion, VersionAnswer, LeaseRequest, LeaseRequestWithCookie, LeaseRefused};
+ghost use Rattle.svsc.specs.Messages.{LeaseGranted, ExtensionRequest, ExtensionRefused, ExtensionGranted, EstablishRequest};
+ghost use Rattle.svsc.specs.Messages.{EstablishRefused, Established, EstablishNotification, SessionEnd, SessionEndNotification};
+ghost use Rattle.svsc.specs.Messages.{DataSend, DataReceive, Keepalive};
 ghost use Rattle.svsc.specs.Writing.{emit, write, written};
 use crate::Written;
 
@@ -71,7 +74,15 @@ fn place(buffer: &mut [u8], kind: u8, a: &[u8], b: &[u8], c: &[u8], d: &[u8]) ->
 }
 
 // The one way to write: a type and four parts, if the fields are in their ranges and the buffer has room.
-fn put_parts(buffer: &mut [u8], fits: bool, kind: u8, a: &[u8], b: &[u8], c: &[u8], d: &[u8]) -> Written
+fn put_parts(
+    buffer: &mut [u8],
+    fits: bool,
+    kind: u8,
+    a: &[u8],
+    b: &[u8],
+    c: &[u8],
+    d: &[u8],
+) -> Written
     ensures { λ r. ⌜ written r (now (buffer .exit))
         ≡ emit fits (kind ∷ (now (a .entry) ++ (now (b .entry) ++ (now (c .entry) ++ now (d .entry))))) (now (buffer .entry)) ⌝ }
 {
@@ -161,7 +172,12 @@ pub extern "C" fn svsc_write_lease_refused(buffer: &mut [u8]) -> Written
 }
 
 #[no_mangle]
-pub extern "C" fn svsc_write_lease_granted(buffer: &mut [u8], id: u32, cookie: &[u8], expiration: u64) -> Written
+pub extern "C" fn svsc_write_lease_granted(
+    buffer: &mut [u8],
+    id: u32,
+    cookie: &[u8],
+    expiration: u64,
+) -> Written
     ensures { λ r. ⌜ written r (now (buffer .exit)) ≡ write (LeaseGranted id (now (cookie .entry)) expiration) (now (buffer .entry)) ⌝ }
 {
     let fits = octets::sized(cookie, crate::COOKIE);
@@ -227,16 +243,26 @@ pub extern "C" fn svsc_write_established(
     ensures { λ r. ⌜ written r (now (buffer .exit))
         ≡ write (Established id (now (session .entry)) (now (peer .entry)) (now (key .entry))) (now (buffer .entry)) ⌝ }
 {
-    let fits = octets::sized(session, crate::KEY) & octets::sized(peer, crate::KEY) & octets::sized(key, crate::KEY);
+    let fits = octets::sized(session, crate::KEY)
+        & octets::sized(peer, crate::KEY)
+        & octets::sized(key, crate::KEY);
     let head = outcome(id, 0);
     put_parts(buffer, fits, 7, &head, session, peer, key)
 }
 
 #[no_mangle]
-pub extern "C" fn svsc_write_establish_notification(buffer: &mut [u8], session: &[u8], peer: &[u8], key: &[u8]) -> Written
-    ensures { λ r. ⌜ written r (now (buffer .exit)) ≡ write (EstablishNotification (now (session .entry)) (now (peer .entry)) (now (key .entry))) (now (buffer .entry)) ⌝ }
+pub extern "C" fn svsc_write_establish_notification(
+    buffer: &mut [u8],
+    session: &[u8],
+    peer: &[u8],
+    key: &[u8],
+) -> Written
+    ensures { λ r. ⌜ written r (now (buffer .exit))
+        ≡ write (EstablishNotification (now (session .entry)) (now (peer .entry)) (now (key .entry))) (now (buffer .entry)) ⌝ }
 {
-    let fits = octets::sized(session, crate::KEY) & octets::sized(peer, crate::KEY) & octets::sized(key, crate::KEY);
+    let fits = octets::sized(session, crate::KEY)
+        & octets::sized(peer, crate::KEY)
+        & octets::sized(key, crate::KEY);
     put_parts(buffer, fits, 8, session, peer, key, b"")
 }
 

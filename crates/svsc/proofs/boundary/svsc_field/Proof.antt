@@ -7,24 +7,16 @@ use Rattle.svsc.specs.Writing.{emit}
 use borrow.Author.Needs.{needs}
 use Rattle.svsc.proofs.boundary.svsc_field.Statement.{statement}
 use Rattle.svsc.proofs.boundary.svsc_field.Tie as tie
-use Rattle.svsc.proofs.boundary.svsc_field.Reads as reads
-use Rattle.svsc.proofs.boundary.svsc_field.Lts as lts
-use Rattle.svsc.proofs.reader.field.Reads as field-reads
-use Rattle.svsc.proofs.writers.store.Reads as store-reads
 
--- src/boundary.rt:94:9
 field-requires : tie.Need-field-requires
 field-requires c κs = search needs
 
--- src/boundary.rt:95:5
 store-requires : tie.Need-store-requires
 store-requires c κs = search needs
 
--- src/boundary.rt:90:1
 same-length : tie.Need-same-length
 same-length c = search needs
 
--- src/boundary.rt:90:1
 returns : tie.Need-returns
 returns c = c .before .before .store .ensures ∙ ap (λ (l : List ℕ). emit true l (c .before .before .before .before .before .before .before .args .buffer .now)) (c .before .before .before .before .field .ensures)
 

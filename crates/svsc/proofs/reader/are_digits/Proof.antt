@@ -1,4 +1,5 @@
-use mathlib.Core.Path.{_≡_, sym, _∙_}
+-- `are_digits`: three bytes, each a digit.
+use mathlib.Core.Path.{sym}
 use native.Mathlib.Omega.{arith}
 use Rattle.svsc.proofs.Forms.{three-digits}
 use borrow.Author.Needs.{needs}

@@ -4,23 +4,16 @@ use Rattle.svsc.proofs.Fields.{not-four}
 use borrow.Author.Needs.{needs}
 use Rattle.svsc.proofs.reader.data_of.Statement.{statement}
 use Rattle.svsc.proofs.reader.data_of.Tie as tie
-use Rattle.svsc.proofs.reader.data_of.Reads as reads
-use Rattle.svsc.proofs.reader.data_of.Lts as lts
-use Rattle.octets.proofs.after.Reads as after-reads
 
--- src/reader.rt:291:9
 after-requires : tie.Need-after-requires
 after-requires c κs = search needs
 
--- src/reader.rt:291:9
 returns : tie.Need-returns
 returns c = rw (c .before .if1 .taken) (c .after .ensures)
 
--- src/reader.rt:293:5
 slice-aggregate-result : tie.Need-slice-aggregate-result
 slice-aggregate-result c = search needs
 
--- src/reader.rt:287:1
 returns-2 : tie.Need-returns-2
 returns-2 c = sym (not-four (c .before .before .before .args .f) _ (c .before .if1 .left))
 

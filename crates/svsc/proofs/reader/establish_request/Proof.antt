@@ -1,9 +1,10 @@
+-- `establish_request`: five bytes.
 use Prim.Native.Nat.{ℕ}
-use mathlib.Core.Path.{_≡_, refl, sym, ap, ap₂, _∙_}
+use mathlib.Core.Path.{refl, ap, _∙_}
 use mathlib.Core.Option.{some}
 use Rattle.svsc.specs.Reading.{answer}
-use Rattle.svsc.proofs.Forms.{single, taken, refused, malformed, lease-request, lease-response, extension-response, establish-response, reaches, reaches-two, type-first, no-type, above-7, past-types}
-use Rattle.svsc.specs.Messages.{VersionAnswer, LeaseGranted, ExtensionGranted, EstablishRequest, EstablishRefused, Established, readings}
+use Rattle.svsc.proofs.Forms.{taken, refused}
+use Rattle.svsc.specs.Messages.{EstablishRequest, readings}
 use borrow.Author.Tests.{eq-eqb, ne-eqb}
 use borrow.Author.Needs.{needs}
 use Rattle.svsc.proofs.reader.establish_request.Statement.{statement}

@@ -1,11 +1,11 @@
-use mathlib.Core.Path.{_≡_, refl, sym, ap, ap₂, _∙_}
+-- `extension_response`: its two forms.
+use mathlib.Core.Path.{ap, _∙_}
 use mathlib.Core.Option.{some}
 use Rattle.svsc.specs.Reading.{answer}
-use Rattle.svsc.proofs.Forms.{single, taken, refused, malformed, lease-request, lease-response, extension-response, establish-response, reaches, reaches-two, type-first, no-type, above-7, past-types}
-use Rattle.svsc.specs.Messages.{VersionAnswer, LeaseGranted, ExtensionGranted, EstablishRequest, EstablishRefused, Established, readings}
+use Rattle.svsc.proofs.Forms.{taken, extension-response, reaches}
+use Rattle.svsc.specs.Messages.{ExtensionGranted}
 use lib.Dec.{lit≤}
 use Prim.Native.Nat.{ℕ}
-use native.Mathlib.Omega.{arith}
 use borrow.Author.Needs.{needs}
 use Rattle.svsc.proofs.reader.extension_response.Statement.{statement}
 use Rattle.svsc.proofs.reader.extension_response.Tie as tie

@@ -4,127 +4,97 @@ use Rattle.svsc.specs.Reading.{fields, fieldOf}
 use borrow.Author.Needs.{needs}
 use Rattle.svsc.proofs.reader.field.Statement.{statement}
 use Rattle.svsc.proofs.reader.field.Tie as tie
-use Rattle.svsc.proofs.reader.field.Reads as reads
-use Rattle.svsc.proofs.reader.field.Lts as lts
-use Rattle.svsc.proofs.reader.cookie_at.Reads as cookie-at-reads
-use Rattle.svsc.proofs.reader.data_of.Reads as data-of-reads
-use Rattle.svsc.proofs.reader.key_at.Reads as key-at-reads
-use Rattle.svsc.proofs.reader.read.Reads as read-reads
 
--- src/reader.rt:300:9
 read-requires : tie.Need-read-requires
 read-requires c κs = search needs
 
--- src/reader.rt:302:44
 enum-told : tie.Need-enum-told
 enum-told c = search needs
 
--- src/reader.rt:302:44
 cookie-at-requires : tie.Need-cookie-at-requires
 cookie-at-requires c κs = search needs
 
--- src/reader.rt:306:14
 enum-told-2 : tie.Need-enum-told-2
 enum-told-2 c = search needs
 
--- src/reader.rt:306:14
 cookie-at-requires-2 : tie.Need-cookie-at-requires-2
 cookie-at-requires-2 c κs = search needs
 
--- src/reader.rt:307:38
 enum-told-3 : tie.Need-enum-told-3
 enum-told-3 c = search needs
 
--- src/reader.rt:307:38
 cookie-at-requires-3 : tie.Need-cookie-at-requires-3
 cookie-at-requires-3 c κs = search needs
 
--- src/reader.rt:308:43
 enum-told-4 : tie.Need-enum-told-4
 enum-told-4 c = search needs
 
--- src/reader.rt:308:43
 key-at-requires : tie.Need-key-at-requires
 key-at-requires c κs = search needs
 
--- src/reader.rt:309:43
 enum-told-5 : tie.Need-enum-told-5
 enum-told-5 c = search needs
 
--- src/reader.rt:309:43
 key-at-requires-2 : tie.Need-key-at-requires-2
 key-at-requires-2 c κs = search needs
 
--- src/reader.rt:310:30
 enum-told-6 : tie.Need-enum-told-6
 enum-told-6 c = search needs
 
--- src/reader.rt:310:30
 data-of-requires : tie.Need-data-of-requires
 data-of-requires c κs = search needs
 
--- src/reader.rt:311:33
 enum-told-7 : tie.Need-enum-told-7
 enum-told-7 c = search needs
 
--- src/reader.rt:311:33
 data-of-requires-2 : tie.Need-data-of-requires-2
 data-of-requires-2 c κs = search needs
 
--- src/reader.rt:312:14
 slice-aggregate-result : tie.Need-slice-aggregate-result
 slice-aggregate-result c = search needs
 
--- src/reader.rt:297:1
 returns : tie.Need-returns
 unfolding fields
 returns c =
     let a = c .before .before .before .before .before .args in
     in-arm (fieldOf (a .f)) _ (a .m .now) (c .before .before .before .read .ensures) _ _ (c .before .enum-told .given .1) (c .cookie-at .ensures)
 
--- src/reader.rt:297:1
 returns-2 : tie.Need-returns-2
 unfolding fields
 returns-2 c =
     let a = c .before .before .before .before .before .args in
     in-arm (fieldOf (a .f)) _ (a .m .now) (c .before .before .before .read .ensures) _ _ (c .before .enum-told2 .given .1) (c .cookie-at2 .ensures)
 
--- src/reader.rt:297:1
 returns-3 : tie.Need-returns-3
 unfolding fields
 returns-3 c =
     let a = c .before .before .before .before .before .args in
     in-arm (fieldOf (a .f)) _ (a .m .now) (c .before .before .before .read .ensures) _ _ (c .before .enum-told3 .given .1) (c .cookie-at3 .ensures)
 
--- src/reader.rt:297:1
 returns-4 : tie.Need-returns-4
 unfolding fields
 returns-4 c =
     let a = c .before .before .before .before .before .args in
     in-arm (fieldOf (a .f)) _ (a .m .now) (c .before .before .before .read .ensures) _ _ (c .before .enum-told4 .given .1) (c .key-at .ensures)
 
--- src/reader.rt:297:1
 returns-5 : tie.Need-returns-5
 unfolding fields
 returns-5 c =
     let a = c .before .before .before .before .before .args in
     in-arm (fieldOf (a .f)) _ (a .m .now) (c .before .before .before .read .ensures) _ _ (c .before .enum-told5 .given .1) (c .key-at2 .ensures)
 
--- src/reader.rt:297:1
 returns-6 : tie.Need-returns-6
 unfolding fields
 returns-6 c =
     let a = c .before .before .before .before .before .args in
     in-arm (fieldOf (a .f)) _ (a .m .now) (c .before .before .before .read .ensures) _ _ (c .before .enum-told6 .given .1) (c .data-of .ensures)
 
--- src/reader.rt:297:1
 returns-7 : tie.Need-returns-7
 unfolding fields
 returns-7 c =
     let a = c .before .before .before .before .before .args in
     in-arm (fieldOf (a .f)) _ (a .m .now) (c .before .before .before .read .ensures) _ _ (c .before .enum-told7 .given .1) (c .data-of2 .ensures)
 
--- src/reader.rt:297:1
 returns-8 : tie.Need-returns-8
 returns-8 c =
     let a = c .before .before .before .before .args in

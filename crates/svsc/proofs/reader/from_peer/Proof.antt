@@ -1,4 +1,5 @@
-use mathlib.Core.Path.{_≡_, sym, _∙_}
+-- `from_peer`: a message of a type that peers send.
+use mathlib.Core.Path.{sym, _∙_}
 use Rattle.svsc.proofs.Cases.{peer-sends, not-sent}
 use borrow.Author.Needs.{needs}
 use Rattle.svsc.proofs.reader.from_peer.Statement.{statement}

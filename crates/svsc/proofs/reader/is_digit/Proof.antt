@@ -1,3 +1,4 @@
+-- `is_digit`: the byte between 48 and 57.
 use mathlib.Core.Path.{refl}
 use Rattle.svsc.specs.Messages.{isDigit}
 use Rattle.svsc.proofs.reader.is_digit.Statement.{statement}

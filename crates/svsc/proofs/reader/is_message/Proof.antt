@@ -1,3 +1,4 @@
+-- `is_message`: every case but Malformed.
 use Rattle.svsc.proofs.Cases.{in-arm, in-rest, is-message}
 use Rattle.svsc.specs.Messages.{isSome}
 use mathlib.Core.Path.{refl}

@@ -3,36 +3,25 @@ use Rattle.svsc.specs.Messages.{isVersion}
 use borrow.Author.Needs.{needs}
 use Rattle.svsc.proofs.reader.is_version.Statement.{statement}
 use Rattle.svsc.proofs.reader.is_version.Tie as tie
-use Rattle.svsc.proofs.reader.is_version.Reads as reads
-use Rattle.svsc.proofs.reader.is_version.Lts as lts
-use Rattle.octets.proofs.equal_at.Reads as equal-at-reads
-use Rattle.svsc.proofs.reader.are_digits.Reads as are-digits-reads
 
--- src/reader.rt:49:28
 slice-aggregate-equal-at : tie.Need-slice-aggregate-equal-at
 slice-aggregate-equal-at c = search needs
 
--- src/reader.rt:49:5
 equal-at-requires : tie.Need-equal-at-requires
 equal-at-requires c κs = search needs
 
--- src/reader.rt:50:11
 are-digits-requires : tie.Need-are-digits-requires
 are-digits-requires c κs = search needs
 
--- src/reader.rt:51:34
 slice-aggregate-equal-at-2 : tie.Need-slice-aggregate-equal-at-2
 slice-aggregate-equal-at-2 c = search needs
 
--- src/reader.rt:51:11
 equal-at-requires-2 : tie.Need-equal-at-requires-2
 equal-at-requires-2 c κs = search needs
 
--- src/reader.rt:52:11
 are-digits-requires-2 : tie.Need-are-digits-requires-2
 are-digits-requires-2 c κs = search needs
 
--- src/reader.rt:45:1
 returns : tie.Need-returns
 unfolding isVersion
 returns c = rw (c .are-digits2 .ensures, c .before .equal-at2 .ensures, c .before .before .before .are-digits .ensures, c .before .before .before .before .equal-at .ensures)

@@ -4,47 +4,34 @@ use Rattle.svsc.proofs.Fields.{not-keys}
 use borrow.Author.Needs.{needs}
 use Rattle.svsc.proofs.reader.key_at.Statement.{statement}
 use Rattle.svsc.proofs.reader.key_at.Tie as tie
-use Rattle.svsc.proofs.reader.key_at.Reads as reads
-use Rattle.svsc.proofs.reader.key_at.Lts as lts
-use Rattle.octets.proofs.part.Reads as part-reads
 
--- src/reader.rt:279:26
 part-requires : tie.Need-part-requires
 part-requires c κs = search needs
 
--- src/reader.rt:280:39
 add-part : tie.Need-add-part
 add-part c = search needs
 
--- src/reader.rt:280:23
 part-requires-2 : tie.Need-part-requires-2
 part-requires-2 c κs = search needs
 
--- src/reader.rt:281:38
 add-part-2 : tie.Need-add-part-2
 add-part-2 c = search needs
 
--- src/reader.rt:281:22
 part-requires-3 : tie.Need-part-requires-3
 part-requires-3 c κs = search needs
 
--- src/reader.rt:282:14
 slice-aggregate-result : tie.Need-slice-aggregate-result
 slice-aggregate-result c = search needs
 
--- src/reader.rt:273:1
 returns : tie.Need-returns
 returns c = rw (c .before .match .keys1) (c .part .ensures)
 
--- src/reader.rt:273:1
 returns-2 : tie.Need-returns-2
 returns-2 c = rw (c .before .match .keys2) (c .part2 .ensures)
 
--- src/reader.rt:273:1
 returns-3 : tie.Need-returns-3
 returns-3 c = rw (c .before .match .keys3) (c .part3 .ensures)
 
--- src/reader.rt:273:1
 returns-4 : tie.Need-returns-4
 returns-4 c =
     let r = c .before .match .rest in

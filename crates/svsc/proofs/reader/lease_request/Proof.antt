@@ -1,8 +1,5 @@
-use mathlib.Core.Path.{_≡_, refl, sym, ap, ap₂, _∙_}
-use mathlib.Core.Option.{some}
-use Rattle.svsc.specs.Reading.{answer}
-use Rattle.svsc.proofs.Forms.{single, taken, refused, malformed, lease-request, lease-response, extension-response, establish-response, reaches, reaches-two, type-first, no-type, above-7, past-types}
-use Rattle.svsc.specs.Messages.{VersionAnswer, LeaseGranted, ExtensionGranted, EstablishRequest, EstablishRefused, Established, readings}
+-- `lease_request`: its two forms.
+use Rattle.svsc.proofs.Forms.{taken, lease-request}
 use borrow.Author.Needs.{needs}
 use Rattle.svsc.proofs.reader.lease_request.Statement.{statement}
 use Rattle.svsc.proofs.reader.lease_request.Tie as tie

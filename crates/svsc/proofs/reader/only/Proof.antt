@@ -1,5 +1,4 @@
-use mathlib.Core.Path.{_≡_, sym}
-use Rattle.svsc.specs.Reading.{onlyIf}
+-- `only`: the case, or Malformed.
 use Rattle.svsc.proofs.reader.only.Statement.{statement}
 use Rattle.svsc.proofs.reader.only.Tie as tie
 

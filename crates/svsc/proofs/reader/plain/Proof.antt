@@ -1,8 +1,7 @@
-use mathlib.Core.Path.{_≡_, refl, sym, ap, ap₂, _∙_}
-use mathlib.Core.Option.{some}
-use Rattle.svsc.specs.Reading.{answer}
-use Rattle.svsc.proofs.Forms.{single, taken, refused, malformed, lease-request, lease-response, extension-response, establish-response, reaches, reaches-two, type-first, no-type, above-7, past-types}
-use Rattle.svsc.specs.Messages.{VersionAnswer, LeaseGranted, ExtensionGranted, EstablishRequest, EstablishRefused, Established, readings}
+-- `plain`: a type whose length decides.
+use mathlib.Core.Path.{refl, _∙_}
+use Rattle.svsc.proofs.Forms.{single, malformed, past-types}
+use Rattle.svsc.specs.Messages.{readings}
 use native.Mathlib.Omega.{arith}
 use lib.Dec.{eqb, leb}
 use lib.ListN.{length}

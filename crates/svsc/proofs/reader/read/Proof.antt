@@ -1,10 +1,8 @@
-use mathlib.Core.Path.{_≡_, refl, sym, ap, ap₂, _∙_}
-use mathlib.Core.Option.{some}
-use Rattle.svsc.specs.Reading.{answer}
-use Rattle.svsc.proofs.Forms.{single, taken, refused, malformed, lease-request, lease-response, extension-response, establish-response, reaches, reaches-two, type-first, no-type, above-7, past-types}
-use Rattle.svsc.specs.Messages.{VersionAnswer, LeaseGranted, ExtensionGranted, EstablishRequest, EstablishRefused, Established, readings}
-use native.Mathlib.Omega.{arith}
-use lib.Dec.{eqb, leb}
+-- `read`: the type picks the reader.
+use mathlib.Core.Path.{refl}
+use Rattle.svsc.proofs.Forms.{single, taken, type-first, no-type, above-7}
+use Rattle.svsc.specs.Messages.{readings}
+use lib.Dec.{eqb}
 use lib.ListN.{length}
 use borrow.Author.Needs.{needs}
 use Rattle.svsc.proofs.reader.read.Statement.{statement}

@@ -1,3 +1,4 @@
+-- `sent_by_peers`: a row of the table, or no type.
 use mathlib.Core.Path.{sym}
 use mathlib.Core.Bool.{false}
 use lib.ListN.{List·getD-eq-default}

@@ -1,4 +1,5 @@
-use mathlib.Core.Path.{_≡_, refl, sym, ap₂, _∙_}
+-- `version`: thirteen bytes with the version text, or malformed.
+use mathlib.Core.Path.{refl, sym, ap₂, _∙_}
 use borrow.Author.Tests.{eq-eqb, ne-eqb}
 use Rattle.svsc.specs.Messages.{ProtocolVersion, readings, digitsAt, isVersion}
 use mathlib.Core.Bool.{_&&_}

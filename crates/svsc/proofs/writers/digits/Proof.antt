@@ -1,3 +1,4 @@
+-- `digits`: three digits.
 use mathlib.Core.Path.{refl}
 use Rattle.svsc.specs.Messages.{digits}
 use borrow.Author.Needs.{needs}

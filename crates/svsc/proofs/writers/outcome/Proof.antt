@@ -1,4 +1,4 @@
-use mathlib.Core.Path.{_≡_, refl, sym, ap}
+-- `outcome`: an id and a status.
 use Rattle.octets.specs.Octets.{bigEndian}
 use borrow.Author.Needs.{needs}
 use Rattle.svsc.proofs.writers.outcome.Statement.{statement}

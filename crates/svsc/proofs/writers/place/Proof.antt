@@ -1,5 +1,5 @@
 -- `place`: the type and the four parts, one behind the other.
-use mathlib.Core.Path.{_≡_, refl}
+use mathlib.Core.Path.{refl}
 use borrow.Author.Needs.{needs}
 use Rattle.svsc.proofs.Writing.{placed, placed-length}
 use Rattle.svsc.proofs.writers.place.Statement.{statement}

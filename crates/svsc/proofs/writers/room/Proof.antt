@@ -1,7 +1,6 @@
+-- `room`: one part after the other.
 use Rattle.svsc.proofs.Writing.{no-room}
-use mathlib.Core.Path.{_≡_, sym}
 use native.Mathlib.Omega.{arith}
-use borrow.Author.Tests.{lt-leb}
 use Rattle.svsc.proofs.Writing.{last-test}
 use Rattle.svsc.proofs.writers.room.Statement.{statement}
 use Rattle.svsc.proofs.writers.room.Tie as tie

@@ -5,23 +5,16 @@ use Rattle.svsc.proofs.Writing.{too-short, stored}
 use borrow.Author.Needs.{needs}
 use Rattle.svsc.proofs.writers.store.Statement.{statement}
 use Rattle.svsc.proofs.writers.store.Tie as tie
-use Rattle.svsc.proofs.writers.store.Reads as reads
-use Rattle.svsc.proofs.writers.store.Lts as lts
-use Rattle.octets.proofs.copy.Reads as copy-reads
 
--- src/writers.rt:20:9
 returns : tie.Need-returns
 returns c = too-short (c .before .before .before .args .bytes .now) (c .before .before .before .args .buffer .now) true refl (c .if1 .taken)
 
--- src/writers.rt:25:5
 copy-requires : tie.Need-copy-requires
 copy-requires c κs = search needs
 
--- src/writers.rt:16:1
 same-length : tie.Need-same-length
 same-length c = search needs
 
--- src/writers.rt:16:1
 returns-2 : tie.Need-returns-2
 returns-2 c =
     let a = c .before .before .before .before .before .before .before .args in

@@ -1,4 +1,4 @@
-use mathlib.Core.Path.{_≡_, refl, _∙_}
+-- `svsc_write_establish_notification`: its ranges and its bytes are those of the message.
 use mathlib.Core.List.{append-nil}
 use Rattle.svsc.specs.Messages.{EstablishNotification, wellFormed, encode}
 use Rattle.svsc.proofs.Writing.{writes}

@@ -1,5 +1,5 @@
-use mathlib.Core.Path.{_≡_, refl, sym, _∙_}
-use Prim.Native.Nat.{_^_, _<_}
+-- `svsc_write_establish_refused`: its ranges and its bytes are those of the message.
+use Prim.Native.Nat.{_^_}
 use borrow.Author.Tests.{lt-ltb}
 use Rattle.svsc.specs.Messages.{EstablishRefused, wellFormed, encode}
 use Rattle.svsc.proofs.Writing.{writes}

@@ -1,4 +1,4 @@
-use mathlib.Core.Path.{_≡_, refl, _∙_}
+-- `svsc_write_establish_request`: its ranges and its bytes are those of the message.
 use Prim.Native.Nat.{_^_}
 use borrow.Author.Tests.{lt-ltb}
 use Rattle.svsc.specs.Messages.{EstablishRequest, wellFormed, encode}

@@ -1,6 +1,6 @@
-use mathlib.Core.Path.{_≡_, refl, sym, _∙_}
+-- `svsc_write_established`: its ranges and its bytes are those of the message.
 use mathlib.Core.List.{append-assoc}
-use Prim.Native.Nat.{_^_, _<_}
+use Prim.Native.Nat.{_^_}
 use borrow.Author.Tests.{lt-ltb}
 use Rattle.svsc.specs.Messages.{Established, wellFormed, encode}
 use Rattle.svsc.proofs.Writing.{writes}

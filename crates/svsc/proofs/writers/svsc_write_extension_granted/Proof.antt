@@ -1,7 +1,8 @@
+-- `svsc_write_extension_granted`: its ranges and its bytes are those of the message.
 use mathlib.Core.Path.{ap}
 use mathlib.Core.List.{List, _∷_}
 use Prim.Native.Nat.{ℕ}
-use mathlib.Core.Path.{_≡_, refl, _∙_}
+use mathlib.Core.Path.{_∙_}
 use mathlib.Core.List.{append-nil}
 use Prim.Native.Nat.{_^_}
 use borrow.Author.Tests.{lt-ltb}

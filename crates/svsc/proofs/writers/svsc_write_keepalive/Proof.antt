@@ -1,4 +1,5 @@
-use mathlib.Core.Path.{_≡_, refl, _∙_}
+-- `svsc_write_keepalive`: its ranges and its bytes are those of the message.
+use mathlib.Core.Path.{refl}
 use Rattle.svsc.specs.Messages.{Keepalive, wellFormed, encode}
 use Rattle.svsc.proofs.Writing.{writes}
 use borrow.Author.Needs.{needs}

@@ -1,6 +1,6 @@
-use mathlib.Core.Path.{_≡_, refl, _∙_}
-use Prim.Native.Nat.{_^_, _<_}
-use native.Mathlib.Omega.{arith}
+-- `svsc_write_lease_granted`: its ranges and its bytes are those of the message.
+use mathlib.Core.Path.{_∙_}
+use Prim.Native.Nat.{_^_}
 use borrow.Author.Tests.{lt-ltb}
 use Rattle.svsc.specs.Messages.{LeaseGranted, wellFormed, encode}
 use Rattle.svsc.proofs.Writing.{writes}

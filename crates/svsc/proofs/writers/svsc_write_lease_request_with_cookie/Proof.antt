@@ -1,4 +1,4 @@
-use mathlib.Core.Path.{_≡_, refl, _∙_}
+-- `svsc_write_lease_request_with_cookie`: its ranges and its bytes are those of the message.
 use mathlib.Core.Path.{ap}
 use mathlib.Core.List.{List, _∷_, append-nil}
 use Prim.Native.Nat.{ℕ}

@@ -1,6 +1,5 @@
-use mathlib.Core.Path.{_≡_, refl, ap₂}
-use mathlib.Core.List.{List, _∷_, _++_}
-use Prim.Native.Nat.{ℕ}
+-- `svsc_write_version`: its ranges and its bytes are those of the message.
+use mathlib.Core.Path.{refl}
 use Rattle.svsc.specs.Messages.{ProtocolVersion, wellFormed, encode}
 use Rattle.svsc.proofs.Writing.{writes}
 use borrow.Author.Needs.{needs}
