@@ -24,6 +24,9 @@ put-append xs at (u ∷ us) vs =
     let e : at + suc (length us) ≡ suc at + length us = omega arith in
     rw e (put-append (set xs at u) (suc at) us vs)
 
+pub put-behind : (xs : List ℕ) (at n : ℕ) (us vs : List ℕ) → length us ≡ n → put (put xs at us) (at + n) vs ≡ put xs at (us ++ vs)
+put-behind xs at n us vs e = ap (λ (k : ℕ). put (put xs at us) (at + k) vs) (sym e) ∙ put-append xs at us vs
+
 -- the run as a part: what was before it, the run, what was after it
 pub put-splice : (xs : List ℕ) (at : ℕ) (vs : List ℕ) → at + length vs ≤ length xs → put xs at vs ≡ take at xs ++ (vs ++ drop (at + length vs) xs)
 unfolding put

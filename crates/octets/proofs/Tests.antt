@@ -1,6 +1,6 @@
 -- Tests of two parts, taken apart, and lists whose elements are bytes. Assumes nothing.
 use Prim.Native.Nat.{ℕ, zero, suc, _≤_, _<_}
-use mathlib.Core.Path.{_≡_, refl}
+use mathlib.Core.Path.{_≡_, refl, sym}
 use mathlib.Core.Bool.{Bool, true, false, _&&_, _||_, false≢true}
 use mathlib.Core.Logic.{_⊎_, inl, inr, ⊎-elim}
 use mathlib.Core.List.{List, [], _∷_}
@@ -22,6 +22,10 @@ both-right false b h = let z : _≡_ {A = Bool} false true = h in absurd (false�
 pub either : (a b : Bool) → a || b ≡ true → (P : Type 0) → (a ≡ true → P) → (b ≡ true → P) → P
 either true b h P f g = f refl
 either false b h P f g = g h
+
+pub either-false : (a b : Bool) → a || b ≡ false → (a ≡ false) × (b ≡ false)
+either-false true b h = absurd (false≢true (sym h))
+either-false false b h = (refl, h)
 
 pub and-true : (a : Bool) → a && true ≡ a
 and-true true = refl

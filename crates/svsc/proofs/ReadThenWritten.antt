@@ -6,7 +6,7 @@ use mathlib.Core.Bool.{Bool, true, false, _&&_}
 use mathlib.Core.Option.{Option, none, some}
 use mathlib.Core.List.{List, [], _∷_, _++_}
 use native.Mathlib.Omega.{arith}
-use lib.Dec.{ltb, leb, eqb}
+use lib.Dec.{lit≤, ltb, leb, eqb}
 use lib.Pow.{areBytes}
 use lib.ListN.{length, drop, getD}
 use borrow.Author.Tests.{leb-true, eqb-true, lt-ltb, eq-eqb}
@@ -324,3 +324,46 @@ refused-exactly m b = (
     by : (d : Option Message) → decode m ≡ d → ((x : Message) → wellFormed x ≡ true → encode x ≡ m → ⊥) → decode m ≡ none
     by none e f = e
     by (some x) e f = let s = decode-sound m x b e in absurd (f x (s .ranges) (s .bytes))
+
+-- ---- how long a message can be
+
+when-length : (n : ℕ) (fits : Bool) (y x : Message) → (fits ≡ true → n ≤ longestMessage) → when fits y ≡ some x → n ≤ longestMessage
+when-length n true y x f e = f refl
+when-length n false y x f e = let z : _≡_ {A = ℕ} 0 1 = cc in absurd (omega arith)
+
+forms-length : (n : ℕ) (a b : Bool) (y z x : Message) → (a ≡ true → n ≤ longestMessage) → (b ≡ true → n ≤ longestMessage)
+    → (when a y orElse when b z) ≡ some x → n ≤ longestMessage
+forms-length n true b y z x f g e = f refl
+forms-length n false b y z x f g e = when-length n b z x g e
+
+-- an exact length, with a test behind it or without
+exact : (n whole : ℕ) → whole ≤ longestMessage → eqb n whole ≡ true → n ≤ longestMessage
+exact n whole l h = let e : n ≡ whole = eqb-true n whole h in omega arith
+
+exact-and : (n whole : ℕ) (b : Bool) → whole ≤ longestMessage → eqb n whole && b ≡ true → n ≤ longestMessage
+exact-and n whole b l h = exact n whole l (both-left _ _ h)
+
+row-length : (xs : List ℕ) (x : Message) (t : ℕ) → getD (readings (t ∷ xs)) t none ≡ some x → suc (length xs) ≤ longestMessage
+unfolding readings
+row-length xs x =
+    types (λ (t : ℕ). getD (readings (t ∷ xs)) t none ≡ some x → suc (length xs) ≤ longestMessage)
+    (when-length _ _ _ x (exact-and _ 13 _ (lit≤ tt)))
+    (when-length _ _ _ x (exact-and _ 2 _ (lit≤ tt)))
+    (forms-length _ _ _ _ _ x (exact-and _ 2 _ (lit≤ tt)) (exact-and _ 26 _ (lit≤ tt)))
+    (forms-length _ _ _ _ _ x (exact-and _ 2 _ (lit≤ tt)) (exact-and _ 38 _ (lit≤ tt)))
+    (when-length _ _ _ x (exact _ 25 (lit≤ tt)))
+    (forms-length _ _ _ _ _ x (exact-and _ 2 _ (lit≤ tt)) (exact-and _ 10 _ (lit≤ tt)))
+    (when-length _ _ _ x (exact _ 5 (lit≤ tt)))
+    (forms-length _ _ _ _ _ x (λ (h : eqb (suc (length xs)) 6 && leb 1 (getD xs 4 0) && leb (getD xs 4 0) 5 ≡ true). exact-and _ 6 _ (lit≤ tt) (both-left _ _ h)) (exact-and _ 54 _ (lit≤ tt)))
+    (when-length _ _ _ x (exact _ 49 (lit≤ tt)))
+    (when-length _ _ _ x (exact _ 1 (lit≤ tt)))
+    (when-length _ _ _ x (exact _ 1 (lit≤ tt)))
+    (when-length _ _ _ x (leb-true _ longestMessage))
+    (when-length _ _ _ x (leb-true _ longestMessage))
+    (when-length _ _ _ x (exact _ 1 (lit≤ tt)))
+    (λ n e. let z : _≡_ {A = ℕ} 0 1 = cc in absurd (omega arith))
+
+pub message-length : (m : List ℕ) (x : Message) → decode m ≡ some x → length m ≤ longestMessage
+unfolding decode
+message-length [] x e = omega arith
+message-length (t ∷ xs) x e = row-length xs x t e

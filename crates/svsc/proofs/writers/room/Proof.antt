@@ -1,7 +1,6 @@
 -- `room`: one part after the other.
-use Rattle.svsc.proofs.Writing.{no-room}
+use Rattle.svsc.proofs.Writing.{no-room, last-test}
 use native.Mathlib.Omega.{arith}
-use Rattle.svsc.proofs.Writing.{last-test}
 use Rattle.svsc.proofs.writers.room.Statement.{statement}
 use Rattle.svsc.proofs.writers.room.Tie as tie
 

@@ -1,10 +1,7 @@
 -- `svsc_write_extension_granted`: its ranges and its bytes are those of the message.
-use mathlib.Core.Path.{ap}
-use mathlib.Core.List.{List, _∷_}
-use Prim.Native.Nat.{ℕ}
-use mathlib.Core.Path.{_∙_}
-use mathlib.Core.List.{append-nil}
-use Prim.Native.Nat.{_^_}
+use mathlib.Core.Path.{ap, _∙_}
+use mathlib.Core.List.{List, _∷_, append-nil}
+use Prim.Native.Nat.{ℕ, _^_}
 use borrow.Author.Tests.{lt-ltb}
 use Rattle.svsc.specs.Messages.{ExtensionGranted, wellFormed, encode}
 use Rattle.svsc.proofs.Writing.{writes}

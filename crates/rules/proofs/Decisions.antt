@@ -1,0 +1,153 @@
+-- What a decision says: a lease that is granted, an extension's row, a session that is established. Assumes nothing.
+use Prim.Native.Nat.{ℕ, _+_, _*_, _≤_, _<_}
+use mathlib.Core.Path.{_≡_, refl, sym, ap, _∙_}
+use mathlib.Core.Logic.{_≢_}
+use mathlib.Core.Bool.{Bool, true, false, not, _&&_, true≢false}
+use mathlib.Core.List.{List}
+use native.Mathlib.Nat.{mod-lt}
+use native.Mathlib.Omega.{arith}
+use lib.Dec.{eqb, ltb, lit<}
+use borrow.Author.Tests.{lt-ltb, le-ltb, ltb-true, eqb-true, eqb-false, not-true, not-false}
+use Rattle.octets.specs.Octets.{if_then_else_, numberAt, same}
+use Rattle.octets.proofs.Tests.{both-left, both-right}
+use Rattle.svsc.specs.Messages.{cookieBytes}
+use Rattle.rules.specs.Sizes.{rowsPerPartner, candidateCount, candidateBytes, idLimit}
+use Rattle.rules.specs.Searches.{firstFrom, firstRow, endRow, firstOwn}
+use Rattle.rules.specs.Tables.{partnerOf, ownerOf, isOpen, hasSession, live, liveWithId, holder, cookieOf, holderCounts}
+use Rattle.rules.specs.Leases.{LeaseDecision, holdsLease, noSpareRow, cookieInUse, noFreeId, granted, holdsRow, spareRow, cookieTaken, randomCookie, candidate, idTaken, firstFree, decideLease, rowToExtend}
+use Rattle.rules.specs.Sessions.{refusedWith, establishedWith, rowOfId, decideEstablish}
+use Rattle.rules.specs.Laws.{isGranted}
+use Rattle.rules.proofs.Searches.{first-low, first-passes, first-found, first-none}
+
+-- Past a test that would give another answer.
+past : {A : Type 0} (t : Bool) {x y z : A} → (if t then x else y) ≡ z → (x ≡ z → ⊥) → (t ≡ false) × (y ≡ z)
+past true e n = absurd (n e)
+past false e n = (refl, e)
+
+-- A row of partner p that a search found.
+pub record Own (p r : ℕ) : Type 0 where
+  pub low : firstRow p ≤ r
+  pub high : r < endRow p
+  pub owner : ownerOf r ≡ p
+
+pub own-row : (p : ℕ) (f : ℕ → Bool) → firstOwn p f < endRow p → Own p (firstOwn p f)
+own-row p f h =
+    let l = first-low f (firstRow p) rowsPerPartner in
+    record { low = l; high = h; owner = omega arith }
+
+-- A row of the partner that passes is not missed, and where none passes the search ends behind its rows.
+pub own-found : (p : ℕ) (f : ℕ → Bool) (r : ℕ) → ownerOf r ≡ p → f r ≡ true → ltb (firstOwn p f) (endRow p) ≡ true
+own-found p f r o h =
+    let found = first-found f (firstRow p) rowsPerPartner r (omega arith) (omega arith) h in
+    lt-ltb (firstOwn p f) (endRow p) (omega arith)
+
+pub own-none : (p : ℕ) (f : ℕ → Bool) → ((r : ℕ) → ownerOf r ≡ p → f r ≡ false) → ltb (firstOwn p f) (endRow p) ≡ false
+own-none p f h =
+    let none = first-none f (firstRow p) rowsPerPartner (λ r l u. h r (omega arith)) in
+    le-ltb (firstOwn p f) (endRow p) (omega arith)
+
+pub own-passes : (p : ℕ) (f : ℕ → Bool) → firstOwn p f < endRow p → f (firstOwn p f) ≡ true
+own-passes p f h = first-passes f (firstRow p) rowsPerPartner h
+
+-- ---- Lease
+
+pub record Granted (ls : List ℕ) (now c : ℕ) (random : List ℕ) (row id : ℕ) (cookie : List ℕ) : Type 0 where
+  pub own : Own (partnerOf c) row
+  pub spare : live ls now row ≡ false
+  pub id-free : idTaken ls now id ≡ false
+  pub id-small : id < idLimit
+  pub cookie-is : cookie ≡ randomCookie random
+
+module _ (ls : List ℕ) (now c : ℕ) (random : List ℕ) where
+  found-spare : ltb (spareRow ls now (partnerOf c)) (endRow (partnerOf c)) ≡ true
+      → Own (partnerOf c) (spareRow ls now (partnerOf c)) × (live ls now (spareRow ls now (partnerOf c)) ≡ false)
+  unfolding spareRow
+  found-spare h =
+      let f : ℕ → Bool = λ r. not (live ls now r) in
+      let l = ltb-true (firstOwn (partnerOf c) f) (endRow (partnerOf c)) h in
+      (own-row (partnerOf c) f l, not-true _ (own-passes (partnerOf c) f l))
+
+  found-id : ltb (firstFree ls now random) candidateCount ≡ true → idTaken ls now (candidate random (firstFree ls now random)) ≡ false
+  unfolding firstFree
+  found-id h =
+      let f : ℕ → Bool = λ k. not (idTaken ls now (candidate random k)) in
+      let l = ltb-true (firstFrom f 0 candidateCount) candidateCount h in
+      not-true _ (first-passes f 0 candidateCount (omega arith))
+
+  candidate-small : (k : ℕ) → candidate random k < idLimit
+  unfolding candidate
+  candidate-small k = mod-lt (numberAt random (cookieBytes + candidateBytes * k) candidateBytes) (lit< tt)
+
+  pub is-granted : (row id : ℕ) (cookie : List ℕ) → decideLease ls now c random ≡ granted row id cookie
+      → Granted ls now c random row id cookie
+  unfolding decideLease
+  is-granted row id cookie e =
+      let a = past (holdsRow ls now c) e (λ z. other holdsLease refl z) in
+      let b = past (not (ltb (spareRow ls now (partnerOf c)) (endRow (partnerOf c)))) (a .1) (λ z. other noSpareRow refl z) in
+      let d = past (cookieTaken ls now (partnerOf c) (randomCookie random)) (b .1) (λ z. other cookieInUse refl z) in
+      let f = past (not (ltb (firstFree ls now random) candidateCount)) (d .1) (λ z. other noFreeId refl z) in
+      let row-is : spareRow ls now (partnerOf c) ≡ row = cc (f .1) in
+      let id-is : candidate random (firstFree ls now random) ≡ id = cc (f .1) in
+      let cookie-is : randomCookie random ≡ cookie = cc (f .1) in
+      let found = found-spare (not-false _ (b .0)) in
+      record {
+        own = rw (← row-is) (found .0);
+        spare = rw (← row-is) (found .1);
+        id-free = rw (← id-is) (found-id (not-false _ (f .0)));
+        id-small = rw (← id-is) (candidate-small (firstFree ls now random));
+        cookie-is = sym cookie-is;
+      }
+    where
+      other : (d : LeaseDecision) → isGranted d ≡ false → d ≡ granted row id cookie → ⊥
+      other d n z = true≢false (sym (ap isGranted z) ∙ n)
+
+-- ---- Extension
+
+-- the row that is extended is live
+pub is-extended : (ls : List ℕ) (now c : ℕ) (cookie : List ℕ) → ltb (rowToExtend ls now c cookie) (endRow (partnerOf c)) ≡ true
+    → Own (partnerOf c) (rowToExtend ls now c cookie) × (live ls now (rowToExtend ls now c cookie) ≡ true)
+unfolding rowToExtend
+is-extended ls now c cookie h =
+    let f : ℕ → Bool = λ r. live ls now r && eqb (holder ls r) c && same (cookieOf ls r) cookie in
+    let l = ltb-true (firstOwn (partnerOf c) f) (endRow (partnerOf c)) h in
+    (own-row (partnerOf c) f l, both-left _ _ (both-left _ _ (own-passes (partnerOf c) f l)))
+
+-- ---- Establish
+
+pub record Holding (cs : List ℕ) (c h : ℕ) : Type 0 where
+  pub of-one : partnerOf h ≡ partnerOf c
+  pub opened : isOpen cs h ≡ true
+  pub differ : c ≢ h
+
+module _ (cs ls : List ℕ) (now c id : ℕ) where
+  row : ℕ
+  row = rowOfId ls now (partnerOf c) id
+
+  own-id : ltb row (endRow (partnerOf c)) ≡ true → ownerOf row ≡ partnerOf c
+  unfolding row rowOfId
+  own-id h = own-row (partnerOf c) (liveWithId ls now id) (ltb-true _ (endRow (partnerOf c)) h) .owner
+
+  counting : holderCounts cs ls row ≡ true → (partnerOf (holder ls row) ≡ ownerOf row) × (isOpen cs (holder ls row) ≡ true)
+  unfolding holderCounts
+  counting h =
+      let mine = eqb (partnerOf (holder ls row)) (ownerOf row) in
+      (eqb-true _ _ (both-left mine _ h), both-right mine _ h)
+
+  pub is-established : (h : ℕ) → decideEstablish cs ls now c id ≡ establishedWith h → Holding cs c h
+  unfolding decideEstablish row
+  is-established h e =
+      let a = past (hasSession cs c) e (λ z. other 4 z) in
+      let b = past (not (ltb row (endRow (partnerOf c)))) (a .1) (λ z. other 1 z) in
+      let d = past (not (holderCounts cs ls row)) (b .1) (λ z. other 2 z) in
+      let f = past (eqb (holder ls row) c) (d .1) (λ z. other 5 z) in
+      let g = past (hasSession cs (holder ls row)) (f .1) (λ z. other 3 z) in
+      let h-is : holder ls row ≡ h = cc (g .1) in
+      let counts = counting (not-false _ (d .0)) in
+      record {
+        of-one = rw (← h-is) (counts .0 ∙ own-id (not-false _ (b .0)));
+        opened = rw (← h-is) (counts .1);
+        differ = λ s. eqb-false (holder ls row) c (f .0) (h-is ∙ sym s);
+      }
+    where
+      other : (n : ℕ) → refusedWith n ≡ establishedWith h → ⊥
+      other n z = let w : _≡_ {A = ℕ} 0 1 = cc in omega arith

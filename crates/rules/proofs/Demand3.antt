@@ -1,0 +1,47 @@
+-- Demand 3 of the relay: it is metered as 01 says, and a start answered with 0 leaves it fresh. Assumes nothing.
+use Prim.Native.Nat.{ℕ, zero, suc, _<_}
+use mathlib.Core.Path.{_≡_, refl, sym, ap, _∙_}
+use borrow.Author.Tests.{leb-false}
+use Rattle.allowance.specs.Meter.{Fresh, Demand3}
+use Rattle.allowance.proofs.Demand3.{demand3}
+use Rattle.rules.specs.Sizes.{timeLimit}
+use Rattle.rules.specs.Tables.{Tables, fresh}
+use Rattle.rules.specs.Checks.{checkStart}
+use Rattle.rules.specs.Step.{start, started}
+use Rattle.rules.specs.Runs.{relayMeter}
+use Rattle.rules.specs.Demand3.{RelayDemand3}
+use Rattle.rules.proofs.Checks.{none-applies}
+use Rattle.rules.proofs.Allowances.{fresh-bucket, fresh-clock}
+use Rattle.rules.proofs.Metered.{relay-metered}
+
+module _ (lent : Tables) (now : ℕ) where
+  pub start-number : start lent now .answer .number ≡ checkStart lent now
+  unfolding start
+  start-number = go (checkStart lent now)
+    where
+      go : (n : ℕ) → started n lent now .answer .number ≡ n
+      go zero = refl
+      go (suc n) = refl
+
+  module _ (e : start lent now .answer .number ≡ 0) where
+    pub started-fresh : start lent now .tables ≡ fresh now
+    unfolding start
+    started-fresh = ap (λ (n : ℕ). started n lent now .tables) (sym start-number ∙ e)
+
+    pub started-in-limit : now < timeLimit
+    unfolding checkStart
+    started-in-limit = leb-false timeLimit now (none-applies 0 _ (sym start-number ∙ e) 1)
+
+    pub start-is-fresh : Fresh relayMeter (start lent now .tables) now
+    start-is-fresh =
+        rw started-fresh
+        (record { filled = λ p p<. fresh-bucket now started-in-limit p p<; clocked = fresh-clock now started-in-limit })
+
+all : Demand3 relayMeter
+all = demand3 relayMeter relay-metered
+
+pub relay-demand3 : RelayDemand3
+relay-demand3 = record {
+  every-run = λ lent now e calls. all .fresh-runs (start lent now .tables) now (start-is-fresh lent now e) calls;
+  any-tables = λ tables calls. all .all-runs tables calls;
+}

@@ -1,0 +1,58 @@
+-- "only type 1 with ok 0 hangs up": every other plan leaves the caller connected. Assumes nothing.
+use Prim.Native.Nat.{ℕ}
+use mathlib.Core.Path.{_≡_, refl}
+use mathlib.Core.Logic.{_≢_}
+use mathlib.Core.Bool.{false}
+use mathlib.Core.List.{List}
+use lib.Dec.{ltb}
+use Rattle.rules.specs.Tables.{Tables, partnerOf}
+use Rattle.rules.specs.Leases.{LeaseDecision, holdsLease, noSpareRow, cookieInUse, noFreeId, granted, decideLease, rowToExtend}
+use Rattle.rules.specs.Searches.{endRow}
+use Rattle.rules.specs.Sessions.{EstablishDecision, refusedWith, establishedWith, decideEstablish}
+use Rattle.rules.specs.Plans.{Plan, planOpen, planLease, planExtension, planEstablish, planEnd, planData, planClose}
+use Rattle.rules.specs.Calls.{Call, timeOf, connectionOf}
+use Rattle.rules.specs.Charges.{received}
+use Rattle.rules.specs.Step.{step, done}
+use Rattle.rules.specs.Laws.{Accepted}
+use Rattle.rules.proofs.Answers.{is-done, done-passed}
+use Rattle.rules.proofs.Plans.{Each, kindOf, every-plan, by-test}
+
+module _ (tables : Tables) (now c n kind : ℕ) (other : kind ≢ 1) where
+  abbrev Stays : Plan → Type 0
+  Stays x = x .disconnect ≡ false
+
+  lease-stays : (d : LeaseDecision) → Stays (planLease tables now c d)
+  unfolding planLease
+  lease-stays holdsLease = refl
+  lease-stays noSpareRow = refl
+  lease-stays cookieInUse = refl
+  lease-stays noFreeId = refl
+  lease-stays (granted row id cookie) = refl
+
+  establish-stays : (id : ℕ) (random : List ℕ) (d : EstablishDecision) → Stays (planEstablish tables c id random d)
+  unfolding planEstablish
+  establish-stays id random (refusedWith status) = refl
+  establish-stays id random (establishedWith h) = refl
+
+  each-stays : Each Stays tables now c n kind
+  unfolding planOpen planExtension planEnd planData planClose
+  each-stays = record {
+    open-plan = refl;
+    version-answer = λ t ok. absurd (other t);
+    lease = λ random. lease-stays (decideLease (tables .leases) now c random);
+    extension = λ cookie.
+        by-test Stays (ltb (rowToExtend (tables .leases) now c cookie) (endRow (partnerOf c))) (λ h. refl) (λ h. refl);
+    establish-plan = λ id random long o. establish-stays id random (decideEstablish (tables .connections) (tables .leases) now c id);
+    end-plan = λ h. refl;
+    data-plan = λ h bytes l. refl;
+    no-plan = refl;
+    close-plan = refl;
+  }
+
+-- The host disconnects the caller after a version answer alone.
+pub stays-connected : (tables : Tables) (call : Call) → Accepted tables call → kindOf call ≢ 1
+    → step tables call .answer .disconnect ≡ false
+unfolding done
+stays-connected tables call e n =
+    let each = each-stays tables (timeOf call) (connectionOf call) (received call) (kindOf call) n in
+    rw (is-done tables call e) (every-plan _ tables call (done-passed tables call e) each)

@@ -1,0 +1,102 @@
+-- Live ids stay distinct, call by call. Assumes nothing.
+use Prim.Native.Nat.{ℕ, _<_}
+use mathlib.Core.Path.{_≡_, refl, ap, _∙_}
+use mathlib.Core.List.{List, [], _∷_}
+use native.Mathlib.Omega.{arith}
+use native.Mathlib.Decide.{ℕ-discrete}
+use lib.Dec.{eqb, ltb}
+use lib.ListN.{length}
+use Rattle.svsc.specs.Messages.{cookieBytes}
+use Rattle.allowance.specs.Meter as meter
+use Rattle.rules.specs.Sizes.{connectionCount, leasesSize}
+use Rattle.rules.specs.Searches.{endRow}
+use Rattle.rules.specs.Tables.{Tables, partnerOf, clock}
+use Rattle.rules.specs.Leases.{LeaseDecision, holdsLease, noSpareRow, cookieInUse, noFreeId, granted, decideLease, leaseEnd, rowToExtend}
+use Rattle.rules.specs.Sessions.{EstablishDecision, refusedWith, establishedWith, decideEstablish}
+use Rattle.rules.specs.Calls.{Call, timeOf, connectionOf, Outcome}
+use Rattle.rules.specs.Charges.{received}
+use Rattle.rules.specs.Plans.{Plan, planOpen, planVersionAnswer, planLease, planExtension, planEstablish, planEnd, planData, planClose, plan}
+use Rattle.rules.specs.Step.{step, done}
+use Rattle.rules.specs.Runs.{after}
+use Rattle.rules.specs.Laws.{DistinctIds}
+use Rattle.rules.proofs.Records.{length-part-most}
+use Rattle.rules.proofs.Checks.{passed}
+use Rattle.rules.proofs.Answers.{refused-leaves-all, is-done, done-passed}
+use Rattle.rules.proofs.Decisions.{is-granted, is-extended}
+use Rattle.rules.proofs.Rows.{distinct-later, distinct-grant, distinct-extend, distinct-release}
+use Rattle.rules.proofs.Plans.{Each, kindOf, every-plan, by-test}
+use Rattle.rules.proofs.Metered.{clock-takes-time}
+
+module _
+    (tables : Tables) (now c : ℕ) (size : length (tables .leases) ≡ leasesSize) (c< : c < connectionCount)
+    (d : DistinctIds (tables .leases) now)
+  where
+    open Tables tables using (connections as cs, leases as ls, allowances as al)
+
+    abbrev Distinct : Plan → Type 0
+    Distinct x = DistinctIds (x .leases) now
+
+    answer-distinct : (ok : ℕ) → Distinct (planVersionAnswer tables c ok)
+    unfolding planVersionAnswer
+    answer-distinct ok = by-test Distinct (eqb ok 1) (λ h. d) (λ h. d)
+
+    lease-distinct : (random : List ℕ) (x : LeaseDecision) → decideLease ls now c random ≡ x → Distinct (planLease tables now c x)
+    unfolding planLease
+    lease-distinct random holdsLease e = d
+    lease-distinct random noSpareRow e = d
+    lease-distinct random cookieInUse e = d
+    lease-distinct random noFreeId e = d
+    lease-distinct random (granted row id cookie) e =
+        let g = is-granted ls now c random row id cookie e in
+        distinct-grant ls now d row (leaseEnd al now) id cookie c size (omega (arith, g .own .high)) (g .id-small) (g .id-free)
+        (rw (g .cookie-is) (length-part-most random 0 cookieBytes))
+
+    extension-distinct : (cookie : List ℕ) → Distinct (planExtension tables now c cookie)
+    unfolding planExtension
+    extension-distinct cookie =
+        by-test Distinct (ltb (rowToExtend ls now c cookie) (endRow (partnerOf c)))
+        (λ h. distinct-extend ls now d _ (leaseEnd al now) (is-extended ls now c cookie h .1))
+        (λ h. d)
+
+    establish-distinct : (id : ℕ) (random : List ℕ) (x : EstablishDecision) → Distinct (planEstablish tables c id random x)
+    unfolding planEstablish
+    establish-distinct id random (refusedWith n) = d
+    establish-distinct id random (establishedWith h) = d
+
+    each-distinct : (n kind : ℕ) → Each Distinct tables now c n kind
+    unfolding planOpen planEnd planData planClose
+    each-distinct n kind = record {
+      open-plan = d;
+      version-answer = λ t. answer-distinct;
+      lease = λ random. lease-distinct random (decideLease ls now c random) refl;
+      extension = extension-distinct;
+      establish-plan = λ id random long o. establish-distinct id random (decideEstablish cs ls now c id);
+      end-plan = λ h. d;
+      data-plan = λ h bytes l. d;
+      no-plan = d;
+      close-plan = distinct-release ls now c d;
+    }
+
+-- at the clock of the tables
+abbrev pub AtClock : Tables → Type 0
+AtClock tables = DistinctIds (tables .leases) (clock (tables .allowances))
+
+step-distinct : (tables : Tables) (call : Call) → AtClock tables → AtClock (step tables call .tables)
+step-distinct tables call d = go (ℕ-discrete (step tables call .answer .number) 0)
+  where
+    leases-done : step tables call .answer .number ≡ 0 → step tables call .tables .leases ≡ plan tables call .leases
+    leases-done e = ap (λ (o : Outcome). o .tables .leases) (is-done tables call e) ∙ (unfold done in refl)
+
+    go : Dec (step tables call .answer .number ≡ 0) → AtClock (step tables call .tables)
+    go (yes e) =
+        let h = done-passed tables call e in
+        let ok = passed tables call h in
+        let later = distinct-later (tables .leases) (clock (tables .allowances)) (timeOf call) (ok .in-order) d in
+        let each = each-distinct tables (timeOf call) (connectionOf call) (ok .leases) (ok .known) later (received call) (kindOf call) in
+        rw (clock-takes-time tables call e, leases-done e) (every-plan _ tables call h each)
+    go (no n) = rw (refused-leaves-all tables call n) d
+
+pub run-distinct : (calls : List Call) (tables : Tables) → AtClock tables → AtClock (after tables calls)
+unfolding meter.after
+run-distinct [] tables d = d
+run-distinct (call ∷ calls) tables d = run-distinct calls (step tables call .tables) (step-distinct tables call d)

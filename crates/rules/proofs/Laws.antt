@@ -1,0 +1,152 @@
+-- The laws that a reader wants of every call and every run; those of single messages and of a close are in MessageLaws. Assumes nothing.
+use Prim.Native.Nat.{ℕ, zero, suc, _+_, _≤_, _<_}
+use mathlib.Core.Path.{_≡_, refl, sym, _∙_}
+use mathlib.Core.Logic.{_≢_, _⊎_, _↔_}
+use mathlib.Core.Bool.{true, false}
+use mathlib.Core.List.{List, [], _∷_, _++_}
+use native.Mathlib.Decide.{ℕ-discrete}
+use lib.ListN.{getD}
+use borrow.Author.Tests.{ne-eqb, lt-leb, not-false}
+use Rattle.octets.proofs.Tests.{and-false}
+use Rattle.allowance.specs.Bucket.{levelNow}
+use Rattle.allowance.specs.History.{levelFromHistory, latest, NonePaid}
+use Rattle.rules.specs.Sizes.{partners, nobody, timeLimit}
+use Rattle.rules.specs.Tables.{Tables, inSession, bucketOf, clock, sized, fresh}
+use Rattle.rules.specs.Calls.{Call, timeOf, connectionOf, callerOf, Outcome}
+use Rattle.rules.specs.Plans.{plan}
+use Rattle.rules.specs.Charges.{charged, received, cost, price}
+use Rattle.rules.specs.Checks.{precheck, missized, pastLimit, checkStart}
+use Rattle.rules.specs.Step.{step, done, start, started}
+use Rattle.rules.specs.Runs.{after, history}
+use Rattle.rules.specs.Laws.{Accepted, Unchanged, WithinPartner, DistinctIds}
+use Rattle.rules.proofs.Checks.{none-applies, all-pass, Passed, passed}
+use Rattle.rules.proofs.Answers.{refused-leaves-all, is-done, done-passed}
+use Rattle.rules.proofs.Metered.{clock-takes-time, bucket-stored}
+use Rattle.rules.proofs.Demand3.{start-number, started-fresh, started-in-limit, relay-demand3}
+use Rattle.rules.proofs.Rows.{distinct-later, distinct-fresh}
+use Rattle.rules.proofs.Plans.{kindOf, every-plan}
+use Rattle.rules.proofs.Within.{each-within}
+use Rattle.rules.proofs.Sessions.{Relays, each-relays}
+use Rattle.rules.proofs.Ids.{run-distinct}
+
+-- ---- making a fresh relay
+
+module _ (tables : Tables) (now : ℕ) where
+  -- It is answered with 0 exactly where the tables have their sizes and the time is below 2^40.
+  pub started-exactly : (start tables now .answer .number ≡ 0) ↔ ((sized tables ≡ true) × (now < timeLimit))
+  unfolding checkStart
+  started-exactly = (
+    (λ e. (not-false (sized tables) (none-applies 0 _ (sym (start-number tables now) ∙ e) 0), started-in-limit tables now e)),
+    (λ q. start-number tables now ∙ all-pass 1 (missized tables ∷ pastLimit now ∷ []) (passes (q .0) (q .1))),
+  )
+    where
+      passes : sized tables ≡ true → now < timeLimit → (i : ℕ) → getD (missized tables ∷ pastLimit now ∷ []) i false ≡ false
+      passes s l zero = rw s
+      passes s l (suc zero) = lt-leb timeLimit now l
+      passes s l (suc (suc i)) = refl
+
+  -- Then the tables are fresh, and else as they were.
+  pub started-is-fresh : start tables now .answer .number ≡ 0 → start tables now .tables ≡ fresh now
+  started-is-fresh = started-fresh tables now
+
+  pub refused-start-changes-nothing : start tables now .answer .number ≢ 0 → start tables now .tables ≡ tables
+  unfolding start
+  refused-start-changes-nothing n = go (checkStart tables now) n
+    where
+      go : (k : ℕ) → started k tables now .answer .number ≢ 0 → started k tables now .tables ≡ tables
+      go zero n = absurd (n refl)
+      go (suc k) n = refl
+
+-- ---- one call
+
+module _ (tables : Tables) (call : Call) where
+  abbrev o : Outcome
+  o = step tables call
+
+  -- A refused call changes no byte, sends nothing and names no destination.
+  pub refused-changes-nothing : o .answer .number ≢ 0 → Unchanged tables call o
+  refused-changes-nothing n =
+      rw (refused-leaves-all tables call n) (record { answer = refl; tables-stay = refl; reply-stays = refl; relay-stays = refl })
+
+  -- On 0 the clock takes the time of the call.
+  pub clock-is-time : Accepted tables call → clock (o .tables .allowances) ≡ timeOf call
+  clock-is-time = clock-takes-time tables call
+
+  -- A call changes connection records and lease rows of its own partner alone, and sends to its own partner alone.
+  pub own-partner-only : WithinPartner (callerOf call) tables (o .tables .connections) (o .tables .leases) (o .answer .destination)
+  own-partner-only = go (ℕ-discrete (o .answer .number) 0)
+    where
+      go : Dec (Accepted tables call)
+          → WithinPartner (callerOf call) tables (o .tables .connections) (o .tables .leases) (o .answer .destination)
+      go (yes e) =
+          let each = each-within tables (timeOf call) (connectionOf call) (received call) (kindOf call) in
+          rw (is-done tables call e) (unfold done in every-plan _ tables call (done-passed tables call e) each)
+      go (no n) =
+          rw
+          (refused-leaves-all tables call n)
+          (record { connections = λ c n. refl; leases = λ r n. refl; destination = λ n. absurd (n refl) })
+
+  -- Nor does it change the allowance of another.
+  pub own-allowance-only : (p : ℕ) → p < partners → callerOf call ≢ p
+      → bucketOf (o .tables .allowances) p ≡ bucketOf (tables .allowances) p
+  own-allowance-only p p< n = go (ℕ-discrete (o .answer .number) 0)
+    where
+      go : Dec (Accepted tables call) → bucketOf (o .tables .allowances) p ≡ bucketOf (tables .allowances) p
+      go (yes e) = bucket-stored tables call e p p< ∙ rw (ne-eqb (callerOf call) p n, and-false (charged call))
+      go (no m) = rw (refused-leaves-all tables call m)
+
+  module _ (e : Accepted tables call) where
+    ok : Passed tables call
+    ok = passed tables call (done-passed tables call e)
+
+    relays : Relays tables (timeOf call) (connectionOf call) (ok .connections) (ok .known) (plan tables call)
+    relays =
+        let each = each-relays tables (timeOf call) (connectionOf call) (ok .connections) (ok .known) (received call) (kindOf call) in
+        every-plan _ tables call (done-passed tables call e) each
+
+    -- "With nothing in the relay tray the destination is 255."
+    pub nothing-to-nobody : o .answer .relayLength ≡ 0 → o .answer .destination ≡ nobody
+    unfolding done
+    nothing-to-nobody = rw (is-done tables call e) (relays .empty)
+
+    -- Whatever is relayed goes to a connection that is in session with the caller, before the call or after it.
+    pub relayed-to-paired : o .answer .destination ≢ nobody
+        → (inSession (tables .connections) (connectionOf call) (o .answer .destination) ≡ true)
+        ⊎ (inSession (o .tables .connections) (connectionOf call) (o .answer .destination) ≡ true)
+    unfolding done
+    relayed-to-paired = rw (is-done tables call e) (relays .to-paired)
+
+-- ---- runs, from a fresh start
+
+module _ (lent : Tables) (now : ℕ) (e : start lent now .answer .number ≡ 0) where
+  abbrev made : Tables
+  made = start lent now .tables
+
+  -- Live ids stay distinct, at any time from the clock on.
+  pub live-ids-distinct : (calls : List Call) (t : ℕ) → clock (after made calls .allowances) ≤ t → DistinctIds (after made calls .leases) t
+  live-ids-distinct calls t l = distinct-later _ _ t l (run-distinct calls made (rw (started-fresh lent now e) (distinct-fresh now _)))
+
+  -- Demand 3 in the relay's words, three fields of `Claim`. Refused with 9 exactly when no check from 1 to 8 applies, the call is charged,
+  -- and it costs more than the history before it leaves.
+  pub nine-exactly : (before : List Call) (call : Call)
+      → (step (after made before) call .answer .number ≡ 9)
+      ↔ ((precheck (after made before) call ≡ 0)
+      × (charged call ≡ true)
+      × (levelFromHistory (callerOf call) (timeOf call) (history made before) < cost call))
+  unfolding price
+  nine-exactly before call = relay-demand3 .every-run lent now e (before ++ (call ∷ [])) .refused-exactly before call [] refl
+
+  -- The level in the table is the level from history, at any time not below the latest.
+  pub level-is : (calls : List Call) (p : ℕ) → p < partners → (t : ℕ) → latest now (history made calls) ≤ t
+      → levelNow (bucketOf (after made calls .allowances) p) t ≡ levelFromHistory p t (history made calls)
+  level-is calls = relay-demand3 .every-run lent now e calls .level
+
+  -- Refused with 9 and with no accepted charged call since, a partner is not refused with 9 two seconds of clock later.
+  pub not-nine-again : (before : List Call) (call : Call) (between : List Call) (again : Call)
+      → step (after made before) call .answer .number ≡ 9
+      → NonePaid (callerOf call) (history (after made before) (call ∷ between))
+      → callerOf again ≡ callerOf call
+      → timeOf call + 2 ≤ timeOf again
+      → step (after made (before ++ (call ∷ between))) again .answer .number ≢ 9
+  not-nine-again before call between again =
+      relay-demand3 .every-run lent now e (before ++ (call ∷ (between ++ (again ∷ [])))) .retry before call between again [] refl

@@ -1,0 +1,182 @@
+-- A lease is accepted, and extended, exactly as 01 says: the tests of the definitions against its sentences. Assumes nothing.
+use Prim.Native.Nat.{ℕ}
+use mathlib.Core.Path.{_≡_, refl, sym, _∙_}
+use mathlib.Core.Logic.{_↔_, _≢_}
+use mathlib.Core.Bool.{Bool, true, false, not, _&&_, false≢true}
+use mathlib.Core.List.{List}
+use native.Mathlib.Omega.{arith}
+use lib.Dec.{eqb, ltb}
+use borrow.Author.Tests.{eq-eqb, ne-eqb, eqb-true, lt-ltb, le-ltb, ltb-true, not-true}
+use Rattle.octets.specs.Octets.{if_then_else_, same}
+use Rattle.octets.proofs.Tests.{both-left, both-right}
+use Rattle.octets.proofs.Equality.{same-eq, same-refl}
+use Rattle.rules.specs.Sizes.{rowsPerPartner, rowCount, candidateCount}
+use Rattle.rules.specs.Searches.{firstFrom, firstRow, endRow, firstOwn, anyOwn}
+use Rattle.rules.specs.Tables.{partnerOf, ownerOf, hasSession, live, liveWithId, idOf, holder, cookieOf}
+use Rattle.rules.specs.Leases.{LeaseDecision, holdsLease, noSpareRow, cookieInUse, noFreeId, granted, holdsRow, spareRow, cookieTaken, randomCookie, candidate, idTaken, firstFree, decideLease, rowToExtend}
+use Rattle.rules.specs.Sessions.{refusedWith, rowOfId, decideEstablish}
+use Rattle.rules.specs.Laws.{LeaseConditions, isGranted, Extendable, Statuses}
+use Rattle.rules.proofs.Searches.{first-passes, none-passes, all-fail, first-found}
+use Rattle.rules.proofs.Decisions.{own-row, own-found, own-none, own-passes}
+
+-- ---- tests, and what they say
+
+differ : (xs ys : List ℕ) → (xs ≡ ys → ⊥) → same xs ys ≡ false
+differ xs ys n = go (same xs ys) refl
+  where
+    go : (t : Bool) → same xs ys ≡ t → t ≡ false
+    go true e = absurd (n (same-eq xs ys e))
+    go false e = refl
+
+-- no row of the partner passes both tests, exactly where the second fails of each that is live
+module _ (ls : List ℕ) (now p : ℕ) (test : ℕ → Bool) where
+  none-live : anyOwn p (λ r. live ls now r && test r) ≡ false → (r : ℕ) → ownerOf r ≡ p → live ls now r ≡ true → test r ≡ false
+  none-live h r o l = sym (rw l) ∙ none-passes (λ r. live ls now r && test r) (firstRow p) rowsPerPartner h r (omega arith) (omega arith)
+
+  live-none : ((r : ℕ) → ownerOf r ≡ p → live ls now r ≡ true → test r ≡ false) → anyOwn p (λ r. live ls now r && test r) ≡ false
+  live-none f = all-fail (λ r. live ls now r && test r) (firstRow p) rowsPerPartner (λ r l u. go (live ls now r) refl (f r (omega arith)))
+    where
+      go : {r : ℕ} (t : Bool) → live ls now r ≡ t → (live ls now r ≡ true → test r ≡ false) → t && test r ≡ false
+      go true e f = f e
+      go false e f = refl
+
+-- a row that has not the id, where it is live
+no-id : (ls : List ℕ) (now id r : ℕ) → (live ls now r ≡ true → idOf ls r ≢ id) → liveWithId ls now id r ≡ false
+unfolding liveWithId
+no-id ls now id r f = go (live ls now r) refl
+  where
+    go : (t : Bool) → live ls now r ≡ t → t && eqb (idOf ls r) id ≡ false
+    go true e = ne-eqb (idOf ls r) id (f e)
+    go false e = refl
+
+-- ---- Lease
+
+module _ (ls : List ℕ) (now c : ℕ) (random : List ℕ) where
+  abbrev p : ℕ
+  p = partnerOf c
+
+  abbrev decision : Bool → Bool → Bool → Bool → LeaseDecision
+  decision holds spare cookie free =
+      if holds then holdsLease
+      else if not spare then noSpareRow
+      else if cookie then cookieInUse
+      else if not free then noFreeId
+      else granted (spareRow ls now p) (candidate random (firstFree ls now random)) (randomCookie random)
+
+  record Tests (holds spare cookie free : Bool) : Type 0 where
+    no-row : holds ≡ false
+    a-spare : spare ≡ true
+    no-cookie : cookie ≡ false
+    a-free : free ≡ true
+
+  tests : (holds spare cookie free : Bool) → isGranted (decision holds spare cookie free) ≡ true → Tests holds spare cookie free
+  tests false true false true e = record { no-row = refl; a-spare = refl; no-cookie = refl; a-free = refl }
+  tests false true false false e = absurd (false≢true e)
+  tests false true true free e = absurd (false≢true e)
+  tests false false cookie free e = absurd (false≢true e)
+  tests true spare cookie free e = absurd (false≢true e)
+
+  abbrev Asked : Type 0
+  Asked =
+      Tests
+      (holdsRow ls now c)
+      (ltb (spareRow ls now p) (endRow p))
+      (cookieTaken ls now p (randomCookie random))
+      (ltb (firstFree ls now random) candidateCount)
+
+  -- each test is its condition
+  conditions : Asked → LeaseConditions ls now c random
+  unfolding holdsRow spareRow cookieTaken firstFree idTaken liveWithId
+  conditions t =
+      let spare-test : ℕ → Bool = λ r. not (live ls now r) in
+      let spare< = ltb-true (firstOwn p spare-test) (endRow p) (t .a-spare) in
+      let free-test : ℕ → Bool = λ k. not (idTaken ls now (candidate random k)) in
+      let free< = ltb-true (firstFrom free-test 0 candidateCount) candidateCount (t .a-free) in
+      let not-held = none-live ls now p (λ r. eqb (holder ls r) c) (t .no-row) in
+      record {
+        holds-none = λ r o l h. false≢true (sym (not-held r o l) ∙ eq-eqb (holder ls r) c h);
+        spare = (firstOwn p spare-test, own-row p spare-test spare< .owner, not-true _ (own-passes p spare-test spare<));
+        new-cookie = λ r o l h.
+            false≢true
+            (sym (none-live ls now p (λ r. same (cookieOf ls r) (randomCookie random)) (t .no-cookie) r o l)
+            ∙ rw h (same-refl (randomCookie random)));
+        free = (
+          firstFrom free-test 0 candidateCount,
+          free<,
+          λ r r< l h.
+              let k = firstFrom free-test 0 candidateCount in
+              let free = not-true _ (first-passes free-test 0 candidateCount free<) in
+              let none = none-passes (liveWithId ls now (candidate random k)) 0 rowCount free r (omega arith) r< in
+              false≢true (sym none ∙ rw l (eq-eqb (idOf ls r) (candidate random k) h)),
+        );
+      }
+
+  asked : LeaseConditions ls now c random → Asked
+  unfolding holdsRow spareRow cookieTaken firstFree idTaken liveWithId
+  asked q = record {
+    no-row = live-none ls now p (λ r. eqb (holder ls r) c) (λ r o l. ne-eqb (holder ls r) c (q .holds-none r o l));
+    a-spare = own-found p (λ r. not (live ls now r)) (q .spare .0) (q .spare .1) (rw (q .spare .2));
+    no-cookie =
+        live-none ls now p (λ r. same (cookieOf ls r) (randomCookie random))
+        (λ r o l. differ (cookieOf ls r) (randomCookie random) (q .new-cookie r o l));
+    a-free =
+        let id = candidate random (q .free .0) in
+        let free : idTaken ls now id ≡ false = all-fail (liveWithId ls now id) 0 rowCount (λ r l u. no-id ls now id r (q .free .2 r u)) in
+        let test : ℕ → Bool = λ k. not (idTaken ls now (candidate random k)) in
+        let found = first-found test 0 candidateCount (q .free .0) (omega arith) (q .free .1) (rw free) in
+        lt-ltb (firstFrom test 0 candidateCount) candidateCount (omega (arith, q .free .1));
+  }
+
+  pub lease-exactly : (isGranted (decideLease ls now c random) ≡ true) ↔ LeaseConditions ls now c random
+  unfolding decideLease
+  lease-exactly = (
+    (λ e. conditions (tests _ _ _ _ e)),
+    (λ q. let t = asked q in rw (t .no-row, t .a-spare, t .no-cookie, t .a-free)),
+  )
+
+-- ---- Extension
+
+module _ (ls : List ℕ) (now c : ℕ) (cookie : List ℕ) where
+  abbrev extends : ℕ → Bool
+  extends r = live ls now r && eqb (holder ls r) c && same (cookieOf ls r) cookie
+
+  pub extension-exactly : (ltb (rowToExtend ls now c cookie) (endRow (partnerOf c)) ≡ true) ↔ Extendable ls now c cookie
+  unfolding rowToExtend
+  extension-exactly = (
+    (λ e.
+        let l = ltb-true (firstOwn (partnerOf c) extends) (endRow (partnerOf c)) e in
+        let r = firstOwn (partnerOf c) extends in
+        let all = own-passes (partnerOf c) extends l in
+        let two = both-left (live ls now r && eqb (holder ls r) c) (same (cookieOf ls r) cookie) all in (
+          r,
+          own-row (partnerOf c) extends l .owner,
+          both-left (live ls now r) (eqb (holder ls r) c) two,
+          eqb-true (holder ls r) c (both-right (live ls now r) (eqb (holder ls r) c) two),
+          same-eq (cookieOf ls r) cookie (both-right (live ls now r && eqb (holder ls r) c) (same (cookieOf ls r) cookie) all),
+        )),
+    (λ q. own-found (partnerOf c) extends (q .0) (q .1) (rw (q .2, eq-eqb (holder ls (q .0)) c (q .3), q .4) (same-refl cookie))),
+  )
+
+-- ---- Establish: the statuses, in their order
+
+pub statuses : (cs ls : List ℕ) (now c id : ℕ) → Statuses cs ls c (rowOfId ls now (partnerOf c) id) (decideEstablish cs ls now c id)
+unfolding decideEstablish
+statuses cs ls now c id =
+    let r = rowOfId ls now (partnerOf c) id in
+    let e = endRow (partnerOf c) in
+    record {
+      four = λ s. rw s;
+      one = λ s l. rw (s, le-ltb r e l);
+      two = λ s l h. rw (s, lt-ltb r e l, h);
+      five = λ s l h o. rw (s, lt-ltb r e l, h, eq-eqb (holder ls r) c o);
+      three = λ s l h o t. rw (s, lt-ltb r e l, h, ne-eqb (holder ls r) c o, t);
+      zero = λ s l h o t. rw (s, lt-ltb r e l, h, ne-eqb (holder ls r) c o, t);
+    }
+
+-- ---- Establish: an id that no live row of the partner has
+
+pub id-under-another : (cs ls : List ℕ) (now c id : ℕ) → hasSession cs c ≡ false
+    → ((r : ℕ) → ownerOf r ≡ partnerOf c → live ls now r ≡ true → idOf ls r ≢ id) → decideEstablish cs ls now c id ≡ refusedWith 1
+unfolding decideEstablish rowOfId
+id-under-another cs ls now c id free none =
+    rw (free, own-none (partnerOf c) (liveWithId ls now id) (λ r o. no-id ls now id r (none r o)))

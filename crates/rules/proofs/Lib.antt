@@ -1,0 +1,25 @@
+-- The laws of the rules. For readers: Laws, MessageLaws, Leases, Charges, Room, Disconnects, Demand3, Examples. The others serve these.
+pub mod Sizes
+pub mod Examples
+pub mod Searches
+pub mod Records
+pub mod Allowances
+pub mod Fresh
+pub mod Connections
+pub mod Rows
+pub mod Messages
+pub mod Checks
+pub mod Charges
+pub mod Answers
+pub mod Decisions
+pub mod Leases
+pub mod Plans
+pub mod Within
+pub mod Sessions
+pub mod Ids
+pub mod Room
+pub mod Disconnects
+pub mod Metered
+pub mod Demand3
+pub mod Laws
+pub mod MessageLaws

@@ -1,0 +1,92 @@
+-- What is shown of each kind of plan holds of the plan of every call that passed the first eight checks. Assumes nothing.
+use Prim.Native.Nat.{ℕ, suc}
+use mathlib.Core.Path.{_≡_, refl}
+use mathlib.Core.Bool.{Bool, true, false, _||_}
+use mathlib.Core.Option.{Option, none, some}
+use mathlib.Core.List.{List}
+use lib.Dec.{eqb}
+use lib.ListN.{length}
+use borrow.Author.Tests.{eq-eqb}
+use Rattle.octets.specs.Octets.{if_then_else_}
+use Rattle.svsc.specs.Messages.{Message, ProtocolVersion, VersionAnswer, LeaseRequest, LeaseRequestWithCookie, LeaseRefused, LeaseGranted, ExtensionRequest, ExtensionRefused, ExtensionGranted, EstablishRequest, EstablishRefused, Established, EstablishNotification, SessionEnd, SessionEndNotification, DataSend, DataReceive, Keepalive, encode, typeOf, decode}
+use Rattle.rules.specs.Sizes.{randomBytes}
+use Rattle.rules.specs.Tables.{Tables, opened, state, isOpen, hasSession}
+use Rattle.rules.specs.Leases.{decideLease}
+use Rattle.rules.specs.Sessions.{decideEstablish}
+use Rattle.rules.specs.Calls.{Call, opening, message, closing, timeOf, connectionOf}
+use Rattle.rules.specs.Charges.{received}
+use Rattle.rules.specs.Plans.{Plan, doNothing, planOpen, planVersionAnswer, planLease, planExtension, planEstablish, planEnd, planData, planClose, planMessage, plan}
+use Rattle.rules.specs.Checks.{permits, precheck}
+use Rattle.rules.proofs.Checks.{random-length, has-session, is-permitted, open-permits}
+use Rattle.rules.proofs.Messages.{decode-type, data-length}
+
+-- What is to be shown of each kind of plan, so that it holds of every one.
+pub record Each (P : Plan → Type 0) (tables : Tables) (now c received kind : ℕ) : Type 0 where
+  pub open-plan : P (planOpen tables c)
+  pub version-answer : kind ≡ 1 → (ok : ℕ) → P (planVersionAnswer tables c ok)
+  pub lease : (random : List ℕ) → P (planLease tables now c (decideLease (tables .leases) now c random))
+  pub extension : (cookie : List ℕ) → P (planExtension tables now c cookie)
+  pub establish-plan : (id : ℕ) (random : List ℕ) → length random ≡ randomBytes → isOpen (tables .connections) c ≡ true
+      → P (planEstablish tables c id random (decideEstablish (tables .connections) (tables .leases) now c id))
+  pub end-plan : hasSession (tables .connections) c ≡ true → P (planEnd tables c)
+  pub data-plan : hasSession (tables .connections) c ≡ true → (bytes : List ℕ) → suc (length bytes) ≡ received → P (planData tables c bytes)
+  pub no-plan : P (doNothing tables)
+  pub close-plan : P (planClose tables c)
+
+module _
+    (P : Plan → Type 0) (tables : Tables) (now c n kind : ℕ) (each : Each P tables now c n kind)
+    (random : List ℕ) (long : length random ≡ randomBytes)
+  where
+    opened-by : permits (state (tables .connections) c) 6 ≡ true → isOpen (tables .connections) c ≡ true
+    opened-by h = eq-eqb _ opened (open-permits (state (tables .connections) c) h)
+
+    -- a message that the state permits, with a session for types 9 and 11
+    of-message : (o : Option Message) → ((x : Message) → o ≡ some x → permits (state (tables .connections) c) (typeOf (encode x)) ≡ true)
+        → ((x : Message) → o ≡ some x → eqb (typeOf (encode x)) 9 || eqb (typeOf (encode x)) 11 ≡ true
+        → hasSession (tables .connections) c ≡ true)
+        → ((bytes : List ℕ) → o ≡ some (DataSend bytes) → suc (length bytes) ≡ n)
+        → ((x : Message) → o ≡ some x → kind ≡ typeOf (encode x))
+        → P (planMessage tables now c random o)
+    unfolding planMessage encode
+    of-message (some (VersionAnswer n)) ok h l t = each .version-answer (t (VersionAnswer n) refl) n
+    of-message (some LeaseRequest) ok h l t = each .lease random
+    of-message (some (LeaseRequestWithCookie cookie)) ok h l t = each .lease random
+    of-message (some (ExtensionRequest cookie)) ok h l t = each .extension cookie
+    of-message (some (EstablishRequest id)) ok h l t = each .establish-plan id random long (opened-by (ok (EstablishRequest id) refl))
+    of-message (some SessionEnd) ok h l t = each .end-plan (h SessionEnd refl refl)
+    of-message (some (DataSend bytes)) ok h l t = each .data-plan (h (DataSend bytes) refl refl) bytes (l bytes refl)
+    of-message (some Keepalive) ok h l t = each .no-plan
+    of-message (some (ProtocolVersion major minor)) ok h l t = each .no-plan
+    of-message (some LeaseRefused) ok h l t = each .no-plan
+    of-message (some (LeaseGranted id cookie expiration)) ok h l t = each .no-plan
+    of-message (some ExtensionRefused) ok h l t = each .no-plan
+    of-message (some (ExtensionGranted expiration)) ok h l t = each .no-plan
+    of-message (some (EstablishRefused id status)) ok h l t = each .no-plan
+    of-message (some (Established id session peerId key)) ok h l t = each .no-plan
+    of-message (some (EstablishNotification session peerId key)) ok h l t = each .no-plan
+    of-message (some SessionEndNotification) ok h l t = each .no-plan
+    of-message (some (DataReceive bytes)) ok h l t = each .no-plan
+    of-message none ok h l t = each .no-plan
+
+-- the type of a message; 14, no type, of an open and a close
+abbrev pub kindOf : Call → ℕ
+kindOf (opening now c reply) = 14
+kindOf (message now c m random reply relay) = typeOf m
+kindOf (closing now c relay) = 14
+
+pub every-plan : (P : Plan → Type 0) (tables : Tables) (call : Call) → precheck tables call ≡ 0
+    → Each P tables (timeOf call) (connectionOf call) (received call) (kindOf call) → P (plan tables call)
+unfolding plan
+every-plan P tables (opening now c reply) h each = each .open-plan
+every-plan P tables (message now c m random reply relay) h each =
+    of-message P tables now c (length m) (typeOf m) each random (random-length tables now c m random reply relay h) (decode m)
+    (λ x e. rw (← decode-type m x e) (is-permitted tables now c m random reply relay h))
+    (λ x e t. has-session tables now c m random reply relay h (rw (decode-type m x e) t))
+    (data-length m)
+    (decode-type m)
+every-plan P tables (closing now c relay) h each = each .close-plan
+
+-- a test that decides between two plans
+pub by-test : {A : Type 0} (P : A → Type 0) (t : Bool) {a b : A} → (t ≡ true → P a) → (t ≡ false → P b) → P (if t then a else b)
+by-test P true f g = f refl
+by-test P false f g = g refl

@@ -1,0 +1,137 @@
+-- A plan writes to records of its own partner and sends to its own partner alone. Assumes nothing.
+use Prim.Native.Nat.{ℕ}
+use mathlib.Core.Path.{_≡_, refl, sym}
+use mathlib.Core.Logic.{_≢_}
+use mathlib.Core.Bool.{true}
+use mathlib.Core.List.{List}
+use native.Mathlib.Omega.{arith}
+use lib.Dec.{eqb, ltb}
+use Rattle.octets.specs.Octets.{if_then_else_}
+use Rattle.svsc.specs.Messages.{cookieBytes}
+use Rattle.rules.specs.Sizes.{rowsPerPartner, connectionBytes, leaseBytes, nobody}
+use Rattle.rules.specs.Searches.{firstRow, endRow}
+use Rattle.rules.specs.Tables.{Tables, partnerOf, ownerOf, opened, peer, hasSession}
+use Rattle.rules.specs.Leases.{LeaseDecision, holdsLease, noSpareRow, cookieInUse, noFreeId, granted, decideLease, leaseEnd, rowToExtend, release}
+use Rattle.rules.specs.Sessions.{EstablishDecision, refusedWith, establishedWith, decideEstablish, establish}
+use Rattle.rules.specs.Plans.{Plan, doNothing, planOpen, planVersionAnswer, planLease, planExtension, planEstablish, planEnd, planData, planClose}
+use Rattle.rules.specs.Laws.{WithinPartner}
+use Rattle.rules.proofs.Records.{Kept, kept-same, kept-trans, length-part-most}
+use Rattle.rules.proofs.Connections.{paired, joined-others, keys-most, kept-clear, kept-state, kept-await, kept-end}
+use Rattle.rules.proofs.Rows.{kept-expiry, kept-grant, kept-release}
+use Rattle.rules.proofs.Decisions.{is-granted, is-extended, is-established}
+use Rattle.rules.proofs.Plans.{Each, by-test}
+
+module _ (tables : Tables) (now c : ℕ) where
+  open Tables tables using (connections as cs, leases as ls, allowances as al)
+
+  abbrev NotOf : ℕ → Type 0
+  NotOf d = partnerOf d ≢ partnerOf c
+
+  abbrev NotRowOf : ℕ → Type 0
+  NotRowOf r = ownerOf r ≢ partnerOf c
+
+  abbrev Within : Plan → Type 0
+  Within x = WithinPartner (partnerOf c) tables (x .connections) (x .leases) (x .destination)
+
+  -- nothing sent to another connection
+  quiet : (ds ms : List ℕ) → Kept connectionBytes NotOf cs ds → Kept leaseBytes NotRowOf ls ms
+      → WithinPartner (partnerOf c) tables ds ms nobody
+  quiet ds ms f g = record { connections = f .at; leases = g .at; destination = λ n. absurd (n refl) }
+
+  same-rows : (ms : List ℕ) → Kept leaseBytes NotRowOf ls ms → WithinPartner (partnerOf c) tables cs ms nobody
+  same-rows ms g = quiet cs ms (kept-same cs) g
+
+  same-connections : (ds : List ℕ) → Kept connectionBytes NotOf cs ds → WithinPartner (partnerOf c) tables ds ls nobody
+  same-connections ds f = quiet ds ls f (kept-same ls)
+
+  nothing-within : Within (doNothing tables)
+  nothing-within = same-rows ls (kept-same ls)
+
+  open-within : Within (planOpen tables c)
+  unfolding planOpen
+  open-within = same-connections _ (kept-await cs c (λ n. n refl))
+
+  answer-within : (ok : ℕ) → Within (planVersionAnswer tables c ok)
+  unfolding planVersionAnswer
+  answer-within ok =
+      by-test Within (eqb ok 1)
+      (λ h. same-connections _ (kept-state cs c (λ n. n refl) opened))
+      (λ h. same-connections _ (kept-clear cs c (λ n. n refl)))
+
+  lease-within : (random : List ℕ) (d : LeaseDecision) → decideLease ls now c random ≡ d → Within (planLease tables now c d)
+  unfolding planLease
+  lease-within random holdsLease e = nothing-within
+  lease-within random noSpareRow e = nothing-within
+  lease-within random cookieInUse e = nothing-within
+  lease-within random noFreeId e = nothing-within
+  lease-within random (granted row id cookie) e =
+      let g = is-granted ls now c random row id cookie e in
+      same-rows _
+      (kept-grant ls row (leaseEnd al now) id cookie c (λ n. n (g .own .owner))
+      (rw (g .cookie-is) (length-part-most random 0 cookieBytes)))
+
+  extension-within : (cookie : List ℕ) → Within (planExtension tables now c cookie)
+  unfolding planExtension
+  extension-within cookie =
+      by-test Within (ltb (rowToExtend ls now c cookie) (endRow (partnerOf c)))
+      (λ h.
+      same-rows _
+      (kept-expiry ls (rowToExtend ls now c cookie) (λ n. n (is-extended ls now c cookie h .0 .owner))
+      (leaseEnd al now)))
+      (λ h. nothing-within)
+
+  establish-within : (id : ℕ) (random : List ℕ) (d : EstablishDecision) → decideEstablish cs ls now c id ≡ d
+      → Within (planEstablish tables c id random d)
+  unfolding planEstablish establish
+  establish-within id random (refusedWith n) e = nothing-within
+  establish-within id random (establishedWith h) e =
+      let of-one = is-established cs ls now c id h e .of-one in
+      record {
+        connections =
+            joined-others {Other = NotOf} cs c h h c _ _ (λ n. n refl) (λ n. n of-one) (keys-most random _ _) (keys-most random _ _) .at;
+        leases = λ r n. refl;
+        destination = λ n. of-one;
+      }
+
+  end-within : hasSession cs c ≡ true → Within (planEnd tables c)
+  unfolding planEnd hasSession
+  end-within h =
+      let of-one = paired cs c (peer cs c) h .of-one in
+      record {
+        connections = kept-end {Other = NotOf} cs c (peer cs c) (λ n. n refl) (λ n. n (sym of-one)) .at;
+        leases = λ r n. refl;
+        destination = λ n. sym of-one;
+      }
+
+  data-within : hasSession cs c ≡ true → (bytes : List ℕ) → Within (planData tables c bytes)
+  unfolding planData hasSession
+  data-within h bytes = record {
+    connections = λ d n. refl;
+    leases = λ r n. refl;
+    destination = λ n. sym (paired cs c (peer cs c) h .of-one);
+  }
+
+  close-within : Within (planClose tables c)
+  unfolding planClose release
+  close-within =
+      let ended = (if hasSession cs c then planEnd tables c else doNothing tables) in
+      let w : Within ended = by-test Within (hasSession cs c) end-within (λ h. nothing-within) in
+      record {
+        connections =
+            kept-trans {xs = cs} (record { at = w .connections }) (kept-clear {Other = NotOf} (ended .connections) c (λ n. n refl)) .at;
+        leases = kept-release {Other = NotRowOf} rowsPerPartner ls c (firstRow (partnerOf c)) (λ k l u n. n (omega arith)) .at;
+        destination = w .destination;
+      }
+
+  pub each-within : (n kind : ℕ) → Each Within tables now c n kind
+  each-within n kind = record {
+    open-plan = open-within;
+    version-answer = λ t. answer-within;
+    lease = λ random. lease-within random (decideLease ls now c random) refl;
+    extension = extension-within;
+    establish-plan = λ id random long o. establish-within id random (decideEstablish cs ls now c id) refl;
+    end-plan = end-within;
+    data-plan = λ h bytes l. data-within h bytes;
+    no-plan = nothing-within;
+    close-plan = close-within;
+  }

@@ -1,0 +1,58 @@
+-- What a call brings, and what it leaves (01, "Answer numbers and their order").
+use Prim.Native.Nat.{ℕ}
+use mathlib.Core.Bool.{Bool, false}
+use mathlib.Core.List.{List, []}
+use Rattle.rules.specs.Sizes.{nobody}
+use Rattle.rules.specs.Tables.{Tables, partnerOf}
+
+-- "opens, messages and closes": the time (01's reading), the connection, and what else is lent: the message, the random bytes (01's draw)
+-- and the buffers (01's trays) for the reply and for the message to another connection. "all else that it brings may be anything"
+pub data Call : Type 0 where
+  opening : (now connection : ℕ) (reply : List ℕ) → Call
+  message : (now connection : ℕ) (bytes random reply relay : List ℕ) → Call
+  closing : (now connection : ℕ) (relay : List ℕ) → Call
+
+abbrev pub timeOf : Call → ℕ
+timeOf (opening now c reply) = now
+timeOf (message now c m random reply relay) = now
+timeOf (closing now c relay) = now
+
+abbrev pub connectionOf : Call → ℕ
+connectionOf (opening now c reply) = c
+connectionOf (message now c m random reply relay) = c
+connectionOf (closing now c relay) = c
+
+-- the partner whose call it is
+abbrev pub callerOf : Call → ℕ
+callerOf call = partnerOf (connectionOf call)
+
+-- the buffers lent; a call that is lent none has the empty one
+abbrev pub replyBuffer : Call → List ℕ
+replyBuffer (opening now c reply) = reply
+replyBuffer (message now c m random reply relay) = reply
+replyBuffer (closing now c relay) = []
+
+abbrev pub relayBuffer : Call → List ℕ
+relayBuffer (opening now c reply) = []
+relayBuffer (message now c m random reply relay) = relay
+relayBuffer (closing now c relay) = relay
+
+-- "An answer also has: bytes in the reply tray (for the caller's connection), bytes in the relay tray, its destination connection or 255,
+-- hang-up yes or no."
+pub record Answer : Type 0 where
+  pub number : ℕ
+  pub replyLength : ℕ
+  pub relayLength : ℕ
+  pub destination : ℕ
+  pub disconnect : Bool
+
+-- "Refusals 1 to 9 report 0, 0, 255, no"
+abbrev pub refusal : ℕ → Answer
+refusal n = record { number = n; replyLength = 0; relayLength = 0; destination = nobody; disconnect = false }
+
+-- the answer, and every byte of tables and buffers afterwards
+pub record Outcome : Type 0 where
+  pub answer : Answer
+  pub tables : Tables
+  pub reply : List ℕ
+  pub relay : List ℕ

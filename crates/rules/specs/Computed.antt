@@ -1,0 +1,49 @@
+-- Opens every definition at once, file by file: with `unfolding computed` a statement about closed calls is computed.
+use Rattle.octets.specs.Octets.{numberFrom, number, bigEndian, part, numberAt, put, same, isBytes, isShort}
+use Rattle.svsc.specs.Messages.{digits, encode, isDigit, areDigits, digitsAt, isVersion, readings, decode, fromPeer}
+use Rattle.allowance.specs.Bucket.{levelNow}
+use Rattle.allowance.specs.Meter.{after, entry, history}
+use Rattle.rules.specs.Searches.{firstFrom, anyFrom}
+use Rattle.rules.specs.Tables.{state, inSession, hasSession, expiry, idOf, cookieOf, live, liveWithId, holderCounts, bucketOf, clock, bucketBytes, records, fresh, sized}
+use Rattle.rules.specs.Leases.{leaseEnd, candidate, idTaken, firstFree, holdsRow, spareRow, cookieTaken, decideLease, grant, rowToExtend, releaseFrom, release}
+use Rattle.rules.specs.Sessions.{clear, await, rowOfId, decideEstablish, join, establish, leave, endSession}
+use Rattle.rules.specs.Plans.{planOpen, planVersionAnswer, planLease, planExtension, planEstablish, planEnd, planData, planClose, planMessage, plan}
+use Rattle.rules.specs.Charges.{cost, price, callerLevel, charge}
+use Rattle.rules.specs.Checks.{untimely, misplaced, cramped, malformed, forbidden, sessionless, overdrawn, firstEight, checks, firstApplying, precheck, check, checkStart}
+use Rattle.rules.specs.Step.{done, step, start}
+
+unfoldable pub bytes : Unit {0}
+unfolding numberFrom number bigEndian part numberAt put same isBytes isShort firstFrom anyFrom
+bytes = tt
+
+unfoldable pub messages : Unit {0}
+unfolding digits encode isDigit areDigits digitsAt isVersion readings decode fromPeer
+messages = tt
+
+unfoldable pub tables : Unit {0}
+unfolding state inSession hasSession expiry idOf cookieOf live liveWithId holderCounts bucketOf clock bucketBytes records fresh sized
+tables = tt
+
+unfoldable pub leases : Unit {0}
+unfolding leaseEnd candidate idTaken firstFree holdsRow spareRow cookieTaken decideLease grant rowToExtend releaseFrom release
+leases = tt
+
+unfoldable pub sessions : Unit {0}
+unfolding clear await rowOfId decideEstablish join establish leave endSession
+sessions = tt
+
+unfoldable pub plans : Unit {0}
+unfolding planOpen planVersionAnswer planLease planExtension planEstablish planEnd planData planClose planMessage plan
+plans = tt
+
+unfoldable pub checked : Unit {0}
+unfolding untimely misplaced cramped malformed forbidden sessionless overdrawn firstEight checks firstApplying precheck check checkStart
+checked = tt
+
+unfoldable pub calls : Unit {0}
+unfolding levelNow cost price callerLevel charge done step start after entry history
+calls = tt
+
+unfoldable pub computed : Unit {0}
+unfolding bytes messages tables leases sessions plans checked calls
+computed = tt

@@ -1,0 +1,20 @@
+-- Demand 3, of the relay.
+use Prim.Native.Nat.{ℕ}
+use mathlib.Core.Path.{_≡_}
+use mathlib.Core.List.{List}
+use Rattle.allowance.specs.History.{Bounded}
+use Rattle.allowance.specs.Meter.{Claim}
+use Rattle.rules.specs.Tables.{Tables}
+use Rattle.rules.specs.Calls.{Call}
+use Rattle.rules.specs.Step.{start}
+use Rattle.rules.specs.Runs.{relayMeter, history}
+
+-- `Claim` (allowance, specs/Meter) has a field for each sentence of the demand and of 01, "Charges"; `relayMeter` says what its words
+-- mean: the level is `levelNow` of the partner's allowance record, an answer is that of `step`, "every earlier check" is `precheck`,
+-- checks 1 to 8, a call's price is its `cost`, 32 and the bytes received, and any call can be paid after two seconds.
+pub record RelayDemand3 : Type 0 where
+  -- "A run is a fresh start answered with 0 and then any list of opens, messages and closes, refused ones included."
+  pub every-run : (lent : Tables) (now : ℕ) → start lent now .answer .number ≡ 0 → (calls : List Call)
+      → Claim relayMeter (start lent now .tables) now calls
+  -- The bound holds of any calls, whatever the tables held before them.
+  pub any-tables : (tables : Tables) (calls : List Call) → Bounded (history tables calls)

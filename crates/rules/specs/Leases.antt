@@ -1,0 +1,82 @@
+-- Lease and Extension (01, "Effects"): what decides, and what is written to the rows; and which rows a close gives back.
+use Prim.Native.Nat.{ℕ, zero, suc, _+_, _*_, _%_}
+use mathlib.Core.Bool.{Bool, not, _&&_}
+use mathlib.Core.List.{List}
+use lib.Dec.{eqb, ltb}
+use Rattle.octets.specs.Octets.{if_then_else_, part, numberAt, same}
+use Rattle.svsc.specs.Messages.{cookieBytes}
+use Rattle.rules.specs.Sizes.{rowsPerPartner, rowCount, nobody, leaseTerm, candidateCount, candidateBytes, idLimit}
+use Rattle.rules.specs.Searches.{firstFrom, anyFrom, firstRow, endRow, firstOwn, anyOwn}
+use Rattle.rules.specs.Tables.{partnerOf, holder, cookieOf, live, liveWithId, setExpiry, setId, setHolder, setCookie}
+
+-- "expiry reading + 3,600". The allowance table is there for its ninth record, which may keep a term.
+unfoldable pub leaseEnd : List ℕ → ℕ → ℕ
+leaseEnd al now = now + leaseTerm
+
+-- ---- Lease
+
+-- "the draw's bytes 0-23"
+abbrev pub randomCookie : List ℕ → List ℕ
+randomCookie random = part random 0 cookieBytes
+
+-- "Draw bytes 24-79 are fourteen candidates of four bytes, each taken modulo 67,108,864"
+unfoldable pub candidate : List ℕ → ℕ → ℕ
+candidate random k = numberAt random (cookieBytes + candidateBytes * k) candidateBytes % idLimit
+
+-- "one is free if no live row of all 128 has it"
+unfoldable pub idTaken : List ℕ → ℕ → ℕ → Bool
+idTaken ls now id = anyFrom (liveWithId ls now id) 0 rowCount
+
+-- "The first free candidate": its number, from 0; fourteen if none is free
+unfoldable pub firstFree : List ℕ → ℕ → List ℕ → ℕ
+firstFree ls now random = firstFrom (λ k. not (idTaken ls now (candidate random k))) 0 candidateCount
+
+-- the connection holds a live row of its partner
+unfoldable pub holdsRow : List ℕ → ℕ → ℕ → Bool
+holdsRow ls now c = anyOwn (partnerOf c) (λ r. live ls now r && eqb (holder ls r) c)
+
+-- "the lowest row that isn't live", or the end of the partner's rows
+unfoldable pub spareRow : List ℕ → ℕ → ℕ → ℕ
+spareRow ls now p = firstOwn p (λ r. not (live ls now r))
+
+-- "the cookie of a live row of the partner"
+unfoldable pub cookieTaken : List ℕ → ℕ → ℕ → List ℕ → Bool
+cookieTaken ls now p cookie = anyOwn p (λ r. live ls now r && same (cookieOf ls r) cookie)
+
+-- which of the four conditions fails first, in 01's order; or that all hold, with the row, the id and the cookie
+pub data LeaseDecision : Type 0 where
+  holdsLease : LeaseDecision
+  noSpareRow : LeaseDecision
+  cookieInUse : LeaseDecision
+  noFreeId : LeaseDecision
+  granted : (row id : ℕ) (cookie : List ℕ) → LeaseDecision
+
+-- "accepted exactly if the connection holds no live row, the partner has a row that isn't live, the draw's bytes 0-23 aren't the cookie of
+-- a live row of the partner, and one of the candidates is free"
+unfoldable pub decideLease : List ℕ → ℕ → ℕ → List ℕ → LeaseDecision
+decideLease ls now c random =
+    if holdsRow ls now c then holdsLease
+    else if not (ltb (spareRow ls now (partnerOf c)) (endRow (partnerOf c))) then noSpareRow
+    else if cookieTaken ls now (partnerOf c) (randomCookie random) then cookieInUse
+    else if not (ltb (firstFree ls now random) candidateCount) then noFreeId
+    else granted (spareRow ls now (partnerOf c)) (candidate random (firstFree ls now random)) (randomCookie random)
+
+-- "The first free candidate goes into the lowest row that isn't live, with those 24 bytes as cookie, this holder, expiry reading + 3,600."
+unfoldable pub grant : List ℕ → ℕ → ℕ → ℕ → List ℕ → ℕ → List ℕ
+grant ls row until id cookie c = setCookie (setHolder (setId (setExpiry ls row until) row id) row c) row cookie
+
+-- ---- Extension
+
+-- "a live row of the partner, held by this connection, has that cookie (the lowest such row)", or the end of the partner's rows
+unfoldable pub rowToExtend : List ℕ → ℕ → ℕ → List ℕ → ℕ
+rowToExtend ls now c cookie = firstOwn (partnerOf c) (λ r. live ls now r && eqb (holder ls r) c && same (cookieOf ls r) cookie)
+
+-- ---- Close
+
+-- "sets byte 12 to 255 in the partner's rows that name this connection": in those of the n rows from r on
+unfoldable pub releaseFrom : List ℕ → ℕ → ℕ → ℕ → List ℕ
+releaseFrom ls c r zero = ls
+releaseFrom ls c r (suc n) = releaseFrom (if eqb (holder ls r) c then setHolder ls r nobody else ls) c (suc r) n
+
+unfoldable pub release : List ℕ → ℕ → List ℕ
+release ls c = releaseFrom ls c (firstRow (partnerOf c)) rowsPerPartner

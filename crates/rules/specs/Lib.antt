@@ -1,0 +1,16 @@
+-- The rules of the relay: all of 01 as definitions, in the order in which they build on each other.
+pub mod Sizes
+pub mod Searches
+pub mod Tables
+pub mod Leases
+pub mod Sessions
+pub mod Calls
+pub mod Plans
+pub mod Charges
+pub mod Checks
+pub mod Step
+pub mod Runs
+pub mod Demand3
+pub mod Laws
+pub mod Computed
+pub mod Examples

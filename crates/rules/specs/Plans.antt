@@ -1,0 +1,139 @@
+-- What a call that passes the checks would do, decided before it is priced (01, "Effects").
+use Prim.Native.Nat.{ℕ}
+use mathlib.Core.Bool.{Bool, true, false}
+use mathlib.Core.Option.{Option, none, some}
+use mathlib.Core.List.{List, []}
+use lib.Dec.{eqb, ltb}
+use Rattle.octets.specs.Octets.{if_then_else_}
+use Rattle.svsc.specs.Messages.{Message, ProtocolVersion, VersionAnswer, LeaseRequest, LeaseRequestWithCookie, LeaseRefused, LeaseGranted, ExtensionRequest, ExtensionRefused, ExtensionGranted, EstablishRequest, EstablishRefused, Established, EstablishNotification, SessionEnd, SessionEndNotification, DataSend, DataReceive, Keepalive, encode, decode}
+use Rattle.rules.specs.Sizes.{nobody}
+use Rattle.rules.specs.Searches.{endRow}
+use Rattle.rules.specs.Tables.{Tables, partnerOf, opened, peer, hasSession, setState, setExpiry}
+use Rattle.rules.specs.Leases.{LeaseDecision, holdsLease, noSpareRow, cookieInUse, noFreeId, granted, decideLease, leaseEnd, grant, rowToExtend, release}
+use Rattle.rules.specs.Sessions.{EstablishDecision, refusedWith, establishedWith, decideEstablish, randomSessionId, callersPeerId, callersKey, holdersPeerId, holdersKey, establish, endSession, await, clear}
+use Rattle.rules.specs.Calls.{Call, opening, message, closing}
+
+-- the messages to the caller and to another connection, as bytes (none where nothing is sent), that connection, whether the host
+-- disconnects the caller, and two tables afterwards
+pub record Plan : Type 0 where
+  pub reply : List ℕ
+  pub relay : List ℕ
+  pub destination : ℕ
+  pub disconnect : Bool
+  pub connections : List ℕ
+  pub leases : List ℕ
+
+-- "With nothing in the relay tray the destination is 255; only type 1 with ok 0 hangs up."
+abbrev pub replying : List ℕ → List ℕ → List ℕ → Plan
+replying cs ls bytes = record { reply = bytes; relay = []; destination = nobody; disconnect = false; connections = cs; leases = ls }
+
+abbrev pub relaying : List ℕ → List ℕ → List ℕ → ℕ → Plan
+relaying cs ls bytes d = record { reply = []; relay = bytes; destination = d; disconnect = false; connections = cs; leases = ls }
+
+abbrev pub doNothing : Tables → Plan
+doNothing tables = replying (tables .connections) (tables .leases) []
+
+-- Open: "reply is the version message", "SVSC 001.000"
+unfoldable pub planOpen : Tables → ℕ → Plan
+planOpen tables c = replying (await (tables .connections) c) (tables .leases) (encode (ProtocolVersion 1 0))
+
+-- Type 1: "ok 1 gives state 2; ok 0 puts the record back to fresh and hangs up"
+unfoldable pub planVersionAnswer : Tables → ℕ → ℕ → Plan
+planVersionAnswer tables c ok =
+    if eqb ok 1 then replying (setState (tables .connections) c opened) (tables .leases) []
+    else record {
+      reply = [];
+      relay = [];
+      destination = nobody;
+      disconnect = true;
+      connections = clear (tables .connections) c;
+      leases = tables .leases;
+    }
+
+-- Lease: "reply is type 3"; "Otherwise accepted 0, still answer 0."
+abbrev pub refuseLease : Tables → Plan
+refuseLease tables = replying (tables .connections) (tables .leases) (encode LeaseRefused)
+
+unfoldable pub planLease : Tables → ℕ → ℕ → LeaseDecision → Plan
+planLease tables now c holdsLease = refuseLease tables
+planLease tables now c noSpareRow = refuseLease tables
+planLease tables now c cookieInUse = refuseLease tables
+planLease tables now c noFreeId = refuseLease tables
+planLease tables now c (granted row id cookie) =
+    let until = leaseEnd (tables .allowances) now in
+    replying (tables .connections) (grant (tables .leases) row until id cookie c) (encode (LeaseGranted id cookie until))
+
+-- Extension: "reply is type 5"; "expiry becomes reading + 3,600"
+unfoldable pub planExtension : Tables → ℕ → ℕ → List ℕ → Plan
+planExtension tables now c cookie =
+    let row = rowToExtend (tables .leases) now c cookie in
+    let until = leaseEnd (tables .allowances) now in
+    if ltb row (endRow (partnerOf c))
+    then replying (tables .connections) (setExpiry (tables .leases) row until) (encode (ExtensionGranted until))
+    else replying (tables .connections) (tables .leases) (encode ExtensionRefused)
+
+-- Establish: "reply is type 7 with the caller's pair, relay is type 8 with the holder's pair, to the holder"
+unfoldable pub planEstablish : Tables → ℕ → ℕ → List ℕ → EstablishDecision → Plan
+planEstablish tables c id random (refusedWith status) =
+    replying (tables .connections) (tables .leases) (encode (EstablishRefused id status))
+planEstablish tables c id random (establishedWith h) = record {
+  reply = encode (Established id (randomSessionId random) (callersPeerId random) (callersKey random));
+  relay = encode (EstablishNotification (randomSessionId random) (holdersPeerId random) (holdersKey random));
+  destination = h;
+  disconnect = false;
+  connections = establish (tables .connections) c h random;
+  leases = tables .leases;
+}
+
+-- Type 9: "both records lose the session ..; relay is type 10 to the other"
+unfoldable pub planEnd : Tables → ℕ → Plan
+planEnd tables c =
+    let d = peer (tables .connections) c in
+    relaying (endSession (tables .connections) c d) (tables .leases) (encode SessionEndNotification) d
+
+-- Type 11: "relay is 12 and the same data, to the other"
+unfoldable pub planData : Tables → ℕ → List ℕ → Plan
+planData tables c bytes =
+    relaying (tables .connections) (tables .leases) (encode (DataReceive bytes)) (peer (tables .connections) c)
+
+-- Close: "ends a session as type 9 does, sets byte 12 to 255 in the partner's rows that name this connection, puts its record back to
+-- fresh"
+unfoldable pub planClose : Tables → ℕ → Plan
+planClose tables c =
+    let ended = (if hasSession (tables .connections) c then planEnd tables c else doNothing tables) in
+    record {
+      reply = [];
+      relay = ended .relay;
+      destination = ended .destination;
+      disconnect = false;
+      connections = clear (ended .connections) c;
+      leases = release (tables .leases) c;
+    }
+
+-- A message. "A cookie in the request is ignored"; "Type 13: nothing sent". What peers do not send, check 6 refuses.
+unfoldable pub planMessage : Tables → ℕ → ℕ → List ℕ → Option Message → Plan
+planMessage tables now c random (some (VersionAnswer ok)) = planVersionAnswer tables c ok
+planMessage tables now c random (some LeaseRequest) = planLease tables now c (decideLease (tables .leases) now c random)
+planMessage tables now c random (some (LeaseRequestWithCookie cookie)) = planLease tables now c (decideLease (tables .leases) now c random)
+planMessage tables now c random (some (ExtensionRequest cookie)) = planExtension tables now c cookie
+planMessage tables now c random (some (EstablishRequest id)) =
+    planEstablish tables c id random (decideEstablish (tables .connections) (tables .leases) now c id)
+planMessage tables now c random (some SessionEnd) = planEnd tables c
+planMessage tables now c random (some (DataSend bytes)) = planData tables c bytes
+planMessage tables now c random (some Keepalive) = doNothing tables
+planMessage tables now c random (some (ProtocolVersion major minor)) = doNothing tables
+planMessage tables now c random (some LeaseRefused) = doNothing tables
+planMessage tables now c random (some (LeaseGranted id cookie expiration)) = doNothing tables
+planMessage tables now c random (some ExtensionRefused) = doNothing tables
+planMessage tables now c random (some (ExtensionGranted expiration)) = doNothing tables
+planMessage tables now c random (some (EstablishRefused id status)) = doNothing tables
+planMessage tables now c random (some (Established id session peerId key)) = doNothing tables
+planMessage tables now c random (some (EstablishNotification session peerId key)) = doNothing tables
+planMessage tables now c random (some SessionEndNotification) = doNothing tables
+planMessage tables now c random (some (DataReceive bytes)) = doNothing tables
+planMessage tables now c random none = doNothing tables
+
+unfoldable pub plan : Tables → Call → Plan
+plan tables (opening now c reply) = planOpen tables c
+plan tables (message now c m random reply relay) = planMessage tables now c random (decode m)
+plan tables (closing now c relay) = planClose tables c

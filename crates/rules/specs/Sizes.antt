@@ -1,0 +1,81 @@
+-- Every size, limit and term of 01 that the relay has, named once. The lengths of messages, cookies and keys are svsc's; the capacity of an
+-- allowance and its refill are allowance's.
+use Prim.Native.Nat.{ℕ, _+_, _*_, _^_}
+
+-- "the eight partners"
+abbrev pub partners : ℕ
+partners = 8
+
+-- "Connection c belongs to partner c / 8"
+abbrev pub connectionsPerPartner : ℕ
+connectionsPerPartner = 8
+
+-- "Partner p owns lease rows 16p to 16p+15"
+abbrev pub rowsPerPartner : ℕ
+rowsPerPartner = 16
+
+-- "64 records of 64 bytes", "128 records of 40 bytes", "9 records of 16 bytes"
+abbrev pub connectionCount : ℕ
+connectionCount = partners * connectionsPerPartner
+
+abbrev pub rowCount : ℕ
+rowCount = partners * rowsPerPartner
+
+abbrev pub allowanceCount : ℕ
+allowanceCount = partners + 1
+
+abbrev pub connectionBytes : ℕ
+connectionBytes = 64
+
+abbrev pub leaseBytes : ℕ
+leaseBytes = 40
+
+abbrev pub allowanceBytes : ℕ
+allowanceBytes = 16
+
+-- Check 1: "4,096, 5,120 or 144 bytes"
+abbrev pub connectionsSize : ℕ
+connectionsSize = connectionCount * connectionBytes
+
+abbrev pub leasesSize : ℕ
+leasesSize = rowCount * leaseBytes
+
+abbrev pub allowancesSize : ℕ
+allowancesSize = allowanceCount * allowanceBytes
+
+-- "peer connection or 255", "holder connection or 255", "its destination connection or 255"
+abbrev pub nobody : ℕ
+nobody = 255
+
+-- Check 2: "the reading is 2^40 or more"
+abbrev pub timeLimit : ℕ
+timeLimit = 2 ^ 40
+
+-- Check 5: "draw not 80 bytes, reply tray under 64"
+abbrev pub randomBytes : ℕ
+randomBytes = 80
+
+abbrev pub leastBuffer : ℕ
+leastBuffer = 64
+
+-- "A message costs 32 plus its length; an open costs 32"
+abbrev pub callCost : ℕ
+callCost = 32
+
+-- "is not refused with 9 for the same bytes two seconds of clock later"
+abbrev pub retryAfter : ℕ
+retryAfter = 2
+
+-- "expiry reading + 3,600"
+abbrev pub leaseTerm : ℕ
+leaseTerm = 3600
+
+-- "fourteen candidates of four bytes, each taken modulo 67,108,864"; "IDs may have 26 to 33 bits .. We use 26."
+abbrev pub candidateCount : ℕ
+candidateCount = 14
+
+abbrev pub candidateBytes : ℕ
+candidateBytes = 4
+
+abbrev pub idLimit : ℕ
+idLimit = 2 ^ 26

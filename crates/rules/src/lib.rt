@@ -1,0 +1,76 @@
+// The numbers of document 01 that the relay's code uses, one place for each. The names are those of specs/Sizes.antt and specs/Tables.antt.
+
+// How many partners there are, and what each of them has.
+pub const PARTNERS: usize = 8;
+
+pub const CONNECTIONS_PER_PARTNER: usize = 8;
+
+pub const ROWS_PER_PARTNER: usize = 16;
+
+pub const CONNECTION_COUNT: usize = PARTNERS * CONNECTIONS_PER_PARTNER;
+
+pub const ROW_COUNT: usize = PARTNERS * ROWS_PER_PARTNER;
+
+pub const ALLOWANCE_COUNT: usize = PARTNERS + 1;
+
+// The bytes of a record, and of a table.
+pub const CONNECTION_BYTES: usize = 64;
+
+pub const LEASE_BYTES: usize = 40;
+
+pub const ALLOWANCE_BYTES: usize = 16;
+
+pub const CONNECTIONS_SIZE: usize = CONNECTION_COUNT * CONNECTION_BYTES;
+
+pub const LEASES_SIZE: usize = ROW_COUNT * LEASE_BYTES;
+
+pub const ALLOWANCES_SIZE: usize = ALLOWANCE_COUNT * ALLOWANCE_BYTES;
+
+// Where the fields of a record stand in it: of a connection the peer, and session-id, peer-id and peer-key in a row;
+pub const PEER_AT: usize = 1;
+
+pub const KEYS_AT: usize = 16;
+
+pub const KEYS_BYTES: usize = 48;
+
+// of a lease the id, the holder and the cookie, behind the expiry;
+pub const ID_AT: usize = 8;
+
+pub const HOLDER_AT: usize = 12;
+
+pub const COOKIE_AT: usize = 16;
+
+// of an allowance the time of its last charge, behind the level; that of the last record is the clock.
+pub const UPDATED_AT: usize = 8;
+
+pub const CLOCK_AT: usize = ALLOWANCE_BYTES * PARTNERS + UPDATED_AT;
+
+// The states of a connection.
+pub const CLOSED: u8 = 0;
+
+pub const AWAITING: u8 = 1;
+
+pub const OPENED: u8 = 2;
+
+// No connection: as a peer, a holder or a destination.
+pub const NOBODY: u8 = 255;
+
+// The first time that is refused.
+pub const TIME_LIMIT: u64 = 1099511627776;
+
+// The random bytes of a message call, and the least bytes of a buffer.
+pub const RANDOM_BYTES: usize = 80;
+
+pub const LEAST_BUFFER: usize = 64;
+
+// What a call costs beside its bytes.
+pub const CALL_COST: u64 = 32;
+
+// The seconds of a lease; the candidates for its id, their bytes, and the first number that is no id.
+pub const LEASE_TERM: u64 = 3600;
+
+pub const CANDIDATE_COUNT: usize = 14;
+
+pub const CANDIDATE_BYTES: usize = 4;
+
+pub const ID_LIMIT: u32 = 67108864;
