@@ -1,0 +1,79 @@
+-- `crondelith_fresh`: refused, or each table made fresh.
+use Rattle.relay.specs.Results.{lent}
+use Rattle.relay.proofs.Stops.{start-sized}
+use Rattle.relay.proofs.Ways.{start-refused, start-done}
+use borrow.Author.Needs.{needs}
+use Rattle.relay.proofs.fresh.crondelith_fresh.Statement.{statement}
+use Rattle.relay.proofs.fresh.crondelith_fresh.Tie as tie
+
+refusal-requires : tie.Need-refusal-requires
+refusal-requires c κs = search needs
+
+refused-requires : tie.Need-refused-requires
+refused-requires c κs = search needs
+
+same-length : tie.Need-same-length
+same-length c = search needs
+
+same-length-2 : tie.Need-same-length-2
+same-length-2 c = search needs
+
+same-length-3 : tie.Need-same-length-3
+same-length-3 c = search needs
+
+returns : tie.Need-returns
+returns c =
+    let a = c .before .before .before .before .before .before .before .before .before .args in
+    start-refused (lent (a .connections .now) (a .leases .now) (a .allowances .now)) (a .time) _ (c .before .before .refusal .ensures) (c .before .if1 .taken) _ (c .refused .ensures)
+
+fresh-connections-requires : tie.Need-fresh-connections-requires
+fresh-connections-requires c κs =
+    let a = c .before .before .before .before .before .before .before .before .before .args in
+    start-sized (lent (a .connections .now) (a .leases .now) (a .allowances .now)) (a .time) _ (c .before .before .refusal .ensures) (c .before .if1 .left) .connections
+
+fresh-leases-requires : tie.Need-fresh-leases-requires
+fresh-leases-requires c κs =
+    let a = c .before .before .before .before .before .before .before .before .before .before .before .before .before .args in
+    start-sized (lent (a .connections .now) (a .leases .now) (a .allowances .now)) (a .time) _ (c .before .before .before .before .before .before .refusal .ensures) (c .before .before .before .before .before .if1 .left) .leases
+
+fresh-allowances-requires : tie.Need-fresh-allowances-requires
+fresh-allowances-requires c κs =
+    let a = c .before .before .before .before .before .before .before .before .before .before .before .before .before .before .before .before .before .args in
+    start-sized (lent (a .connections .now) (a .leases .now) (a .allowances .now)) (a .time) _ (c .before .before .before .before .before .before .before .before .before .before .refusal .ensures) (c .before .before .before .before .before .before .before .before .before .if1 .left) .allowances
+
+refused-requires-2 : tie.Need-refused-requires-2
+refused-requires-2 c κs = search needs
+
+same-length-4 : tie.Need-same-length-4
+same-length-4 c = search needs
+
+same-length-5 : tie.Need-same-length-5
+same-length-5 c = search needs
+
+same-length-6 : tie.Need-same-length-6
+same-length-6 c = search needs
+
+returns-2 : tie.Need-returns-2
+returns-2 c =
+    let a = c .before .before .before .before .before .before .before .before .before .before .before .before .before .before .before .before .before .before .before .before .before .args in
+    start-done (lent (a .connections .now) (a .leases .now) (a .allowances .now)) (a .time) _ (c .before .before .before .before .before .before .before .before .before .before .before .before .before .before .refusal .ensures) (c .before .before .before .before .before .before .before .before .before .before .before .before .before .if1 .left) _ _ _ _ (c .refused2 .ensures) (c .before .before .before .before .before .before .before .before .before .before .before .fresh-connections .ensures (a .time))
+    (c .before .before .before .before .before .before .before .fresh-leases .ensures (a .time)) (c .before .before .before .fresh-allowances .ensures)
+
+pub crondelith-fresh-spec : {M : Type 1} → statement M
+crondelith-fresh-spec =
+    tie.close
+    (tie.spec
+    refusal-requires
+    refused-requires
+    same-length
+    same-length-2
+    same-length-3
+    returns
+    fresh-connections-requires
+    fresh-leases-requires
+    fresh-allowances-requires
+    refused-requires-2
+    same-length-4
+    same-length-5
+    same-length-6
+    returns-2)

@@ -1,0 +1,61 @@
+/* The relay's engine: making a fresh relay, opening a connection, a message from one, closing one.
+ *
+ * Link librelay.a, which `rt staticlib relay` writes. Each function is total: any bytes, any numbers and any lengths get an answer.
+ * The three tables are 4,096, 5,120 and 144 bytes; who calls keeps them between calls and writes nothing to them. Buffers must not
+ * overlap. A slice is a pointer and a length; an empty one may have any pointer.
+ */
+#ifndef CRONDELITH_H
+#define CRONDELITH_H
+
+#include <stddef.h>
+#include <stdint.h>
+
+#ifdef __cplusplus
+extern "C" {
+#endif
+
+#define CRONDELITH_CONNECTIONS 4096u
+#define CRONDELITH_LEASES 5120u
+#define CRONDELITH_ALLOWANCES 144u
+#define CRONDELITH_RANDOM 80u /* random bytes that a message is lent */
+#define CRONDELITH_BUFFER 64u /* the least reply buffer; a relay buffer also holds as many bytes as the message */
+#define CRONDELITH_NOBODY 255u
+
+/* number: 0 done, or the first check that applies:
+ *   1 a table has another size             6 not a message that peers send
+ *   2 the time is 2^40 or more, or below   7 not permitted in the connection's state
+ *     that of the last accepted call       8 needs a session
+ *   3 connection 64 or more                9 costs more than the partner has left
+ *   4 open: not closed; else: closed
+ *   5 a buffer too short, or not 80 random bytes
+ * A refused call changes no byte and answers 0, 0, CRONDELITH_NOBODY, 0.
+ */
+typedef struct {
+    uint32_t number;
+    uint32_t reply;       /* bytes at the start of the reply buffer, for the caller's connection */
+    uint32_t relay;       /* bytes at the start of the relay buffer, for the destination */
+    uint32_t destination; /* a connection, or CRONDELITH_NOBODY */
+    uint32_t disconnect;  /* 1: the host has to disconnect the caller */
+} crondelith_answer;
+
+crondelith_answer crondelith_fresh(uint8_t *connections, size_t connections_length, uint8_t *leases, size_t leases_length,
+                                   uint8_t *allowances, size_t allowances_length, uint64_t now);
+
+crondelith_answer crondelith_open(uint8_t *connections, size_t connections_length, uint8_t *leases, size_t leases_length,
+                                  uint8_t *allowances, size_t allowances_length, uint64_t now, uint64_t connection, uint8_t *reply,
+                                  size_t reply_length);
+
+crondelith_answer crondelith_message(uint8_t *connections, size_t connections_length, uint8_t *leases, size_t leases_length,
+                                     uint8_t *allowances, size_t allowances_length, uint64_t now, uint64_t connection,
+                                     const uint8_t *message, size_t message_length, const uint8_t *random, size_t random_length,
+                                     uint8_t *reply, size_t reply_length, uint8_t *relay, size_t relay_length);
+
+crondelith_answer crondelith_close(uint8_t *connections, size_t connections_length, uint8_t *leases, size_t leases_length,
+                                   uint8_t *allowances, size_t allowances_length, uint64_t now, uint64_t connection, uint8_t *relay,
+                                   size_t relay_length);
+
+#ifdef __cplusplus
+}
+#endif
+
+#endif
