@@ -1,24 +1,14 @@
 /* Calls each function of include/svsc.h once, as a C program would, and checks what comes back. How the functions
  * behave is compared in Rust (host/compare); this shows that the header and the archive fit together. */
-#include <stdio.h>
 #include <string.h>
 
+#include "check.h"
 #include "svsc.h"
 
 /* host/engine/src/svsc.rs has the same numbers about its structs. */
 _Static_assert(sizeof(svsc_message) == 32 && offsetof(svsc_message, expiration) == 24, "svsc_message");
 _Static_assert(offsetof(svsc_message, type) == 4 && offsetof(svsc_message, id) == 20, "svsc_message");
 _Static_assert(sizeof(svsc_written) == 16 && offsetof(svsc_written, length) == 8, "svsc_written");
-
-static int failures = 0;
-
-#define CHECK(claim)                                                    \
-    do {                                                                \
-        if (!(claim)) {                                                 \
-            fprintf(stderr, "%s:%d: %s\n", __FILE__, __LINE__, #claim); \
-            failures++;                                                 \
-        }                                                               \
-    } while (0)
 
 static uint8_t buffer[64];
 static const uint8_t cookie[24] = "the cookie's 24 bytes..";

@@ -1,23 +1,31 @@
-//! Links the proved archive: from build/lib of the repository, or from the folder (an absolute path) that
+//! Links the proved archives: from build/lib of the repository, or from the folder (an absolute path) that
 //! CRONDELITH_LIB names.
 
 use std::env;
 use std::path::{Path, PathBuf};
 
 const FOLDER_VARIABLE: &str = "CRONDELITH_LIB";
+const ARCHIVES: [&str; 2] = ["svsc", "relay"];
 
 fn main() {
     println!("cargo::rerun-if-env-changed={FOLDER_VARIABLE}");
     let folder = env::var_os(FOLDER_VARIABLE).map_or_else(built_here, PathBuf::from);
-    let archive = folder.join("libsvsc.a");
+    println!("cargo::rustc-link-search=native={}", folder.display());
+    for name in ARCHIVES {
+        link(&folder, name);
+    }
+}
+
+/// Links an archive, whose path the crate then finds in CRONDELITH_LINKED_ and the name.
+fn link(folder: &Path, name: &str) {
+    let archive = folder.join(format!("lib{name}.a"));
     println!("cargo::rerun-if-changed={}", archive.display());
     if !archive.is_file() {
         println!("cargo::error=no {}: run ./test in the repository, which builds it", archive.display());
         return;
     }
-    println!("cargo::rustc-link-search=native={}", folder.display());
-    println!("cargo::rustc-link-lib=static=svsc");
-    println!("cargo::rustc-env=CRONDELITH_LINKED={}", archive.display());
+    println!("cargo::rustc-link-lib=static={name}");
+    println!("cargo::rustc-env=CRONDELITH_LINKED_{}={}", name.to_uppercase(), archive.display());
 }
 
 /// This crate is host/engine of the repository.

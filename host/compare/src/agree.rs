@@ -1,25 +1,15 @@
 //! One call made of both codecs. Each function gives the answer on which they agree, or the difference.
 
-use std::fmt;
-
 use codec::Message;
 use engine::svsc::{self, Written};
 
 use crate::boundary::{field_of, Boundary, Second};
+use crate::difference::{same, same_bytes, shown, Difference};
 use crate::forms;
 use crate::guarded::Guarded;
 
 /// Every field of bytes, and two numbers that are none.
 pub const FIELDS: [u32; 7] = [svsc::COOKIE, svsc::SESSION, svsc::PEER, svsc::KEY, svsc::DATA, 5, u32::MAX];
-
-/// The call, and what differs.
-pub struct Difference(String);
-
-impl fmt::Debug for Difference {
-    fn fmt(&self, out: &mut fmt::Formatter) -> fmt::Result {
-        out.write_str(&self.0)
-    }
-}
 
 /// Reads the bytes as numbers and as every field, each with a buffer of just its length.
 pub fn read(subject: &impl Boundary, message: &[u8]) -> Result<svsc::Message, Difference> {
@@ -69,23 +59,4 @@ pub fn write(subject: &impl Boundary, message: &Message, room: usize) -> Result<
         same_bytes(call, &ours, &Guarded::unwritten(room))?;
     }
     Ok(answer)
-}
-
-fn same<T: PartialEq + fmt::Debug>(call: impl Fn() -> String, ours: &T, expected: &T) -> Result<(), Difference> {
-    if ours == expected {
-        return Ok(());
-    }
-    Err(Difference(format!("{}: {ours:?}, expected {expected:?}", call())))
-}
-
-fn same_bytes(call: impl Fn() -> String, ours: &Guarded, expected: &Guarded) -> Result<(), Difference> {
-    match ours.first_difference(expected) {
-        None => Ok(()),
-        Some(place) => Err(Difference(format!("{}: an unexpected byte at {place} of a lent buffer", call()))),
-    }
-}
-
-/// The bytes of a message, long data cut short.
-fn shown(message: &[u8]) -> String {
-    format!("{} bytes {:?}", message.len(), &message[..message.len().min(70)])
 }

@@ -1,11 +1,13 @@
 //! What the comparison tests share. The proved codec and the second implementation answer behind one trait,
-//! [`Boundary`], in the numbers of include/svsc.h; [`agree`] makes the same call of both and names the first
-//! difference.
+//! [`Boundary`](boundary::Boundary), in the numbers of include/svsc.h; [`agree`] makes the same call of both and names
+//! the first difference. [`relay`] has the same for the relay and include/crondelith.h.
 
 pub mod agree;
 pub mod amount;
 pub mod boundary;
+pub mod difference;
 pub mod forms;
 pub mod guarded;
 pub mod random;
+pub mod relay;
 pub mod tally;

@@ -32,6 +32,20 @@ impl Random {
         choices[self.below(choices.len())]
     }
 
+    /// True once in so many times.
+    pub fn one_in(&mut self, times: usize) -> bool {
+        self.below(times) == 0
+    }
+
+    /// Two times in three the usual one, else one of the others.
+    pub fn mostly<T: Copy>(&mut self, usual: T, others: &[T]) -> T {
+        if self.one_in(3) {
+            self.choice(others)
+        } else {
+            usual
+        }
+    }
+
     /// A part of this length from anywhere in the pool, which must be longer.
     pub fn part<'a>(&mut self, pool: &'a [u8], length: usize) -> &'a [u8] {
         &pool[self.below(pool.len() - length)..][..length]

@@ -11,6 +11,18 @@ impl Tally {
         *self.0.entry(name).or_default().entry(number).or_default() += 1;
     }
 
+    /// Writes a row for each name.
+    pub fn write_rows(&self, out: &mut fmt::Formatter) -> fmt::Result {
+        for (name, answers) in &self.0 {
+            write!(out, "{name:>28}")?;
+            for (number, count) in answers {
+                write!(out, "  {count:>8} answered {number}")?;
+            }
+            writeln!(out)?;
+        }
+        Ok(())
+    }
+
     /// Asserts that the name got this answer at least once, or, if that is expected, never.
     pub fn assert_reached(&self, name: &str, number: u32, expected: bool) {
         let reached = self.0.get(name).is_some_and(|answers| answers.contains_key(&number));
@@ -20,13 +32,7 @@ impl Tally {
 
 impl fmt::Display for Tally {
     fn fmt(&self, out: &mut fmt::Formatter) -> fmt::Result {
-        for (name, answers) in &self.0 {
-            write!(out, "{name:>28}")?;
-            for (number, count) in answers {
-                write!(out, "  {count:>8} answered {number}")?;
-            }
-            writeln!(out)?;
-        }
+        self.write_rows(out)?;
         let calls: u64 = self.0.values().flat_map(BTreeMap::values).sum();
         write!(out, "{calls:>38} calls")
     }

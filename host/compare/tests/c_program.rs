@@ -1,20 +1,29 @@
-//! include/svsc.h as a C compiler sees it: host/c/svsc_check.c, compiled, linked with the archive and run.
+//! The headers as a C compiler sees them: the programs of host/c, compiled, linked with their archives and run.
 
 use std::path::Path;
 use std::process::Command;
 
 #[test]
-fn the_header_and_the_archive_serve_a_c_program() {
+fn the_codec_s_header_and_archive_serve_a_c_program() {
+    compile_and_run("svsc_check", engine::svsc::ARCHIVE);
+}
+
+#[test]
+fn the_relay_s_header_and_archive_serve_a_c_program() {
+    compile_and_run("crondelith_check", engine::relay::ARCHIVE);
+}
+
+fn compile_and_run(name: &str, archive: &str) {
     let host = Path::new(env!("CARGO_MANIFEST_DIR")).join("..");
-    let program = Path::new(env!("CARGO_TARGET_TMPDIR")).join("svsc_check");
+    let program = Path::new(env!("CARGO_TARGET_TMPDIR")).join(name);
     let compiler = std::env::var("CC").unwrap_or("cc".into());
     run(Command::new(compiler)
         .args(["-std=c11", "-Wall", "-Wextra", "-Werror", "-pedantic", "-I"])
         .arg(host.join("../include"))
         .arg("-o")
         .arg(&program)
-        .arg(host.join("c/svsc_check.c"))
-        .arg(engine::ARCHIVE));
+        .arg(host.join("c").join(name).with_extension("c"))
+        .arg(archive));
     run(&mut Command::new(program));
 }
 

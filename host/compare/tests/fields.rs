@@ -1,8 +1,9 @@
 //! svsc_field for every form and every field number, with buffers too short, just long enough and longer.
 
 use codec::encode;
-use compare::agree::{self, Difference};
+use compare::agree;
 use compare::boundary::{field_of, Proved};
+use compare::difference::Difference;
 use compare::tally::Tally;
 use compare::{amount, forms};
 use engine::svsc::{DONE, SHORT};

@@ -1,8 +1,9 @@
 //! The reader, svsc_read, and for each input every field of bytes with a buffer of just its length.
 
 use codec::{encode, Message};
-use compare::agree::{self, Difference};
+use compare::agree;
 use compare::boundary::Proved;
+use compare::difference::Difference;
 use compare::random::Random;
 use compare::tally::Tally;
 use compare::{amount, forms};

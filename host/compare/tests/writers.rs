@@ -1,8 +1,9 @@
 //! The eighteen writers, with fields in and out of their ranges and buffers too short, just long enough and longer.
 
 use codec::Message;
-use compare::agree::{self, Difference};
+use compare::agree;
 use compare::boundary::Proved;
+use compare::difference::Difference;
 use compare::tally::Tally;
 use compare::{amount, forms};
 use engine::svsc::{DONE, MALFORMED, SHORT};

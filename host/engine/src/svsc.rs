@@ -2,6 +2,9 @@
 
 use std::mem::{offset_of, size_of};
 
+/// The archive of these functions, for a C program to link too.
+pub const ARCHIVE: &str = env!("CRONDELITH_LINKED_SVSC");
+
 pub const DONE: u32 = 0;
 /// The buffer is too short.
 pub const SHORT: u32 = 5;

@@ -1,0 +1,177 @@
+//! The relay's C boundary as a trait, and the two relays behind it.
+
+use engine::relay::{self, Answer};
+use model::Tables;
+
+use crate::guarded::Guarded;
+
+/// A call, with all that it brings but the tables. Of buffers that are only written it has the lengths.
+#[derive(Clone, Debug)]
+pub struct Call {
+    pub now: u64,
+    pub kind: Kind,
+}
+
+#[derive(Clone, Debug)]
+pub enum Kind {
+    Fresh,
+    Open { connection: u64, reply: usize },
+    Message { connection: u64, message: Vec<u8>, random: Vec<u8>, reply: usize, relay: usize },
+    Close { connection: u64, relay: usize },
+}
+
+impl Call {
+    /// The caller's connection, if there is such a one.
+    pub fn caller(&self) -> Option<usize> {
+        let connection = match self.kind {
+            Kind::Fresh => return None,
+            Kind::Open { connection, .. } | Kind::Message { connection, .. } | Kind::Close { connection, .. } => {
+                connection
+            }
+        };
+        (connection < model::CONNECTIONS as u64).then_some(connection as usize)
+    }
+
+    /// What the call costs, if it is a charged one.
+    pub fn cost(&self) -> Option<u64> {
+        match &self.kind {
+            Kind::Open { .. } => Some(model::BASE_COST),
+            Kind::Message { message, .. } => model::cost(message),
+            Kind::Fresh | Kind::Close { .. } => None,
+        }
+    }
+
+    /// The call's message; empty for another call.
+    pub fn message(&self) -> &[u8] {
+        match &self.kind {
+            Kind::Message { message, .. } => message,
+            _ => &[],
+        }
+    }
+
+    fn random(&self) -> &[u8] {
+        match &self.kind {
+            Kind::Message { random, .. } => random,
+            _ => &[],
+        }
+    }
+
+    /// The lengths of the reply and the relay buffer.
+    fn rooms(&self) -> (usize, usize) {
+        match self.kind {
+            Kind::Fresh => (0, 0),
+            Kind::Open { reply, .. } => (reply, 0),
+            Kind::Message { reply, relay, .. } => (reply, relay),
+            Kind::Close { relay, .. } => (0, relay),
+        }
+    }
+}
+
+/// Everything that a call is lent, each between guard bytes.
+#[derive(Clone)]
+pub struct Lent {
+    pub connections: Guarded,
+    pub leases: Guarded,
+    pub allowances: Guarded,
+    pub message: Guarded,
+    pub random: Guarded,
+    pub reply: Guarded,
+    pub relay: Guarded,
+}
+
+impl Lent {
+    pub fn new(tables: &Tables, call: &Call) -> Self {
+        let (reply, relay) = call.rooms();
+        Self {
+            connections: Guarded::holding(&tables.connections),
+            leases: Guarded::holding(&tables.leases),
+            allowances: Guarded::holding(&tables.allowances),
+            message: Guarded::holding(call.message()),
+            random: Guarded::holding(call.random()),
+            reply: Guarded::unwritten(reply),
+            relay: Guarded::unwritten(relay),
+        }
+    }
+
+    pub fn tables(&self) -> Tables {
+        Tables {
+            connections: self.connections.lend().to_vec(),
+            leases: self.leases.lend().to_vec(),
+            allowances: self.allowances.lend().to_vec(),
+        }
+    }
+
+    pub fn set_tables(&mut self, tables: &Tables) {
+        self.connections.lend_mut().copy_from_slice(&tables.connections);
+        self.leases.lend_mut().copy_from_slice(&tables.leases);
+        self.allowances.lend_mut().copy_from_slice(&tables.allowances);
+    }
+
+    /// All that is lent, with names for it.
+    pub fn named(&self) -> [(&'static str, &Guarded); 7] {
+        [
+            ("connections", &self.connections),
+            ("leases", &self.leases),
+            ("allowances", &self.allowances),
+            ("message", &self.message),
+            ("random", &self.random),
+            ("reply", &self.reply),
+            ("relay", &self.relay),
+        ]
+    }
+}
+
+pub trait Boundary {
+    /// Makes the call with what it is lent, which [`Lent::new`] has made for it.
+    fn call(&self, call: &Call, lent: &mut Lent) -> Answer;
+}
+
+/// The proved relay: the archive.
+pub struct Proved;
+
+impl Boundary for Proved {
+    fn call(&self, call: &Call, lent: &mut Lent) -> Answer {
+        let tables = relay::Tables {
+            connections: lent.connections.lend_mut(),
+            leases: lent.leases.lend_mut(),
+            allowances: lent.allowances.lend_mut(),
+        };
+        let (message, random) = (lent.message.lend(), lent.random.lend());
+        let (reply, relay) = (lent.reply.lend_mut(), lent.relay.lend_mut());
+        match call.kind {
+            Kind::Fresh => relay::fresh(tables, call.now),
+            Kind::Open { connection, .. } => relay::open(tables, call.now, connection, reply),
+            Kind::Message { connection, .. } => {
+                relay::message(tables, call.now, connection, message, random, reply, relay)
+            }
+            Kind::Close { connection, .. } => relay::close(tables, call.now, connection, relay),
+        }
+    }
+}
+
+/// The second implementation, its answers put as include/crondelith.h has them.
+pub struct Second;
+
+impl Boundary for Second {
+    fn call(&self, call: &Call, lent: &mut Lent) -> Answer {
+        let mut tables = lent.tables();
+        let (message, random) = (lent.message.lend(), lent.random.lend());
+        let (reply, relay) = (lent.reply.lend_mut(), lent.relay.lend_mut());
+        let answer = match call.kind {
+            Kind::Fresh => model::fresh(&mut tables, call.now),
+            Kind::Open { connection, .. } => model::open(&mut tables, call.now, connection, reply),
+            Kind::Message { connection, .. } => {
+                model::message(&mut tables, call.now, connection, message, random, reply, relay)
+            }
+            Kind::Close { connection, .. } => model::close(&mut tables, call.now, connection, relay),
+        };
+        lent.set_tables(&tables);
+        Answer {
+            number: answer.number,
+            reply: answer.reply as u32,
+            relay: answer.relay as u32,
+            destination: answer.destination as u32,
+            disconnect: answer.disconnect.into(),
+        }
+    }
+}

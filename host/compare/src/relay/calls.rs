@@ -1,0 +1,221 @@
+//! Calls to make: mostly such as the relay's state suggests, with ids and cookies that are in its tables.
+
+use codec::{encode, Message, DATA_LIMIT};
+use engine::relay::{BUFFER, RANDOM};
+use model::{partner_of, Lease, Relay, State, BASE_COST, CONNECTIONS, TIME_LIMIT};
+
+use super::boundary::{Call, Kind};
+use crate::forms;
+use crate::random::Random;
+
+/// Connection numbers that there are not, some with a low byte that would be one.
+const NO_CONNECTIONS: [u64; 8] = [64, 65, 255, 256, 1 << 32, (1 << 32) + 5, 1 << 63, u64::MAX];
+
+/// Times at which calls are made on tables from anywhere.
+const TIMES: [u64; 8] = [0, 1, 100, 3_600, 1 << 32, TIME_LIMIT - 3_600, TIME_LIMIT - 2, TIME_LIMIT - 1];
+const TIMES_TOO_LATE: [u64; 4] = [TIME_LIMIT, TIME_LIMIT + 1, 1 << 63, u64::MAX];
+
+/// Lengths of data, hardly ever the longest.
+pub const SHORT_DATA: &[usize] = &[0, 1, 2, 30, 63, 64, 65, 1_000];
+pub const LONG_DATA: &[usize] = &[DATA_LIMIT, DATA_LIMIT, 30_000, 8_000];
+
+/// Makes calls. The pool is a store of random bytes, longer than the longest data.
+pub struct Calls<'a> {
+    pub random: &'a mut Random,
+    pub pool: &'a [u8],
+}
+
+impl Calls<'_> {
+    /// A time, mostly one that may pass.
+    pub fn time(&mut self) -> u64 {
+        match self.random.below(12) {
+            0 => self.random.choice(&TIMES_TOO_LATE),
+            1..8 => self.random.choice(&TIMES),
+            _ => self.random.number() % TIME_LIMIT,
+        }
+    }
+
+    /// A call of the connection that its state permits, mostly; with such data, if data is sent.
+    pub fn suitable(&mut self, relay: &Relay, now: u64, connection: usize, data: &[usize]) -> Call {
+        let random = self.random_bytes(relay, now, connection);
+        let bytes = match relay.connections[connection].state() {
+            _ if self.random.one_in(14) => return Call { now, kind: close(connection) },
+            State::Closed if !self.random.one_in(10) => return Call { now, kind: open(connection) },
+            State::Awaiting if !self.random.one_in(10) => vec![1, u8::from(!self.random.one_in(8))],
+            _ => self.message(relay, connection, data),
+        };
+        Call { now, kind: message(connection, bytes, random) }
+    }
+
+    /// As much data as the allowance lets pass or a byte more, or much, from a connection of the partner in a session.
+    pub fn flood(&mut self, relay: &Relay, now: u64, partner: usize) -> Option<Call> {
+        let sender = (partner * 8..partner * 8 + 8).find(|&connection| relay.in_session_with(connection).is_some())?;
+        let level = relay.allowances[partner].level_at(now) as usize;
+        let left = level.saturating_sub(BASE_COST as usize + 1);
+        let lengths = [left.min(DATA_LIMIT), (left + 1).min(DATA_LIMIT), self.random.choice(LONG_DATA)];
+        Some(Call { now, kind: message(sender, self.data(&lengths), self.any_random_bytes()) })
+    }
+
+    /// A message for an open connection.
+    fn message(&mut self, relay: &Relay, connection: usize, data: &[usize]) -> Vec<u8> {
+        let in_session = relay.in_session_with(connection).is_some();
+        match self.random.below(20) {
+            0..4 => vec![2, 0],
+            4 => [&[2, 1], &self.cookie(relay, connection)[..]].concat(),
+            5..8 => [&[4], &self.cookie(relay, connection)[..]].concat(),
+            8..13 => [&[6], &self.id(relay, connection).to_be_bytes()[..]].concat(),
+            13..17 if in_session || self.random.one_in(3) => self.data(data),
+            17 if in_session || self.random.one_in(3) => vec![9],
+            18 => vec![1, 1],
+            _ => vec![13],
+        }
+    }
+
+    fn data(&mut self, lengths: &[usize]) -> Vec<u8> {
+        let length = self.random.choice(lengths);
+        [&[11], self.random.part(self.pool, length)].concat()
+    }
+
+    /// A cookie: of a lease that the connection holds, of another of its partner, of anybody's, or a new one.
+    fn cookie(&mut self, relay: &Relay, connection: usize) -> Vec<u8> {
+        let held = relay.leases.iter().filter(|lease| usize::from(lease.holder) == connection);
+        let held: Vec<&Lease> = held.collect();
+        match self.random.below(4) {
+            0 => self.random.bytes(24),
+            1 | 2 if !held.is_empty() => self.random.choice(&held).cookie.to_vec(),
+            _ => self.row_near(relay, connection).cookie.to_vec(),
+        }
+    }
+
+    /// An id: one that is in the tables, as it is or 2^26 more, or a new one.
+    fn id(&mut self, relay: &Relay, connection: usize) -> u32 {
+        let id = self.row_near(relay, connection).id;
+        match self.random.below(8) {
+            0 => self.random.number() as u32,
+            1 => id.wrapping_add(1 << 26),
+            _ => id,
+        }
+    }
+
+    /// A lease row, mostly one of the connection's partner that has been used.
+    fn row_near<'r>(&mut self, relay: &'r Relay, connection: usize) -> &'r Lease {
+        let own: Vec<&Lease> =
+            relay.rows_of(partner_of(connection)).map(|(_, lease)| lease).filter(|lease| lease.expiry > 0).collect();
+        if own.is_empty() || self.random.one_in(6) {
+            &relay.leases[self.random.below(relay.leases.len())]
+        } else {
+            self.random.choice(&own)
+        }
+    }
+
+    /// Random bytes for a lease: the cookie at times one in the tables; the candidates new, taken, or a mixture.
+    fn random_bytes(&mut self, relay: &Relay, now: u64, connection: usize) -> Vec<u8> {
+        let mut bytes = self.any_random_bytes();
+        if self.random.one_in(5) {
+            bytes[..24].copy_from_slice(&self.row_near(relay, connection).cookie);
+        }
+        let live: Vec<u32> = relay.leases.iter().filter(|lease| lease.is_live(now)).map(|lease| lease.id).collect();
+        let taken_in_ten = self.random.choice(&[0, 0, 9, 10]);
+        for candidate in bytes[24..].chunks_exact_mut(4) {
+            if !live.is_empty() && self.random.below(10) < taken_in_ten {
+                // The same id with other high bits, which are cut off.
+                let id = self.random.choice(&live) | self.random.choice(&[0, 1 << 26, 63 << 26]);
+                candidate.copy_from_slice(&id.to_be_bytes());
+            }
+        }
+        bytes
+    }
+
+    fn any_random_bytes(&mut self) -> Vec<u8> {
+        self.random.part(self.pool, RANDOM).to_vec()
+    }
+
+    /// Changes one thing that the call brings, so that some check may refuse it.
+    pub fn spoil(&mut self, call: &mut Call, clock: u64) {
+        match self.random.below(6) {
+            0 => call.now = self.odd_time(call.now, clock),
+            1 => call.kind = self.any_kind(),
+            2 => self.spoil_connection(&mut call.kind),
+            3 => self.spoil_message(&mut call.kind),
+            _ => self.spoil_buffer(&mut call.kind),
+        }
+    }
+
+    fn odd_time(&mut self, now: u64, clock: u64) -> u64 {
+        match self.random.below(3) {
+            0 => self.random.choice(&TIMES_TOO_LATE),
+            1 => self.random.choice(&[0, clock.saturating_sub(1)]),
+            _ => now,
+        }
+    }
+
+    /// An open, a message or a close of any connection, whatever its state.
+    fn any_kind(&mut self) -> Kind {
+        let connection = self.random.below(CONNECTIONS);
+        match self.random.below(3) {
+            0 => open(connection),
+            1 => close(connection),
+            _ => message(connection, self.any_message(), self.any_random_bytes()),
+        }
+    }
+
+    /// A message of any form, peers' or not.
+    fn any_message(&mut self) -> Vec<u8> {
+        let messages = forms::one_of_each(self.random, self.pool);
+        encode(&self.random.choice::<Message>(&messages)).expect("a message whose fields are in range")
+    }
+
+    fn spoil_connection(&mut self, kind: &mut Kind) {
+        if let Kind::Open { connection, .. } | Kind::Message { connection, .. } | Kind::Close { connection, .. } = kind
+        {
+            *connection = self.random.choice(&NO_CONNECTIONS);
+        }
+    }
+
+    /// Another message, or the same with one byte changed, one fewer or one more.
+    fn spoil_message(&mut self, kind: &mut Kind) {
+        let another = self.any_message();
+        if let Kind::Message { message, relay, .. } = kind {
+            match self.random.below(5) {
+                0 => *message = another,
+                1 => message.push(0),
+                2 => drop(message.pop()),
+                3 if !message.is_empty() => {
+                    let place = self.random.below(message.len().min(4));
+                    message[place] = self.random.choice(&[0, 1, 2, 5, 9, 14, 255]);
+                }
+                _ => message.clear(),
+            }
+            *relay = BUFFER.max(message.len());
+        }
+    }
+
+    /// One byte too few or too many of what must have a length.
+    fn spoil_buffer(&mut self, kind: &mut Kind) {
+        let near =
+            |random: &mut Random, length: usize| random.choice(&[length.saturating_sub(1), length + 1, length + 40, 0]);
+        match kind {
+            Kind::Fresh => {}
+            Kind::Open { reply: room, .. } | Kind::Close { relay: room, .. } => *room = near(self.random, *room),
+            Kind::Message { random, reply, relay, .. } => match self.random.below(3) {
+                0 => random.resize(near(self.random, RANDOM), 7),
+                1 => *reply = near(self.random, *reply),
+                _ => *relay = near(self.random, *relay),
+            },
+        }
+    }
+}
+
+fn open(connection: usize) -> Kind {
+    Kind::Open { connection: connection as u64, reply: BUFFER }
+}
+
+fn close(connection: usize) -> Kind {
+    Kind::Close { connection: connection as u64, relay: BUFFER }
+}
+
+/// A message with buffers that are just long enough.
+fn message(connection: usize, message: Vec<u8>, random: Vec<u8>) -> Kind {
+    let relay = BUFFER.max(message.len());
+    Kind::Message { connection: connection as u64, message, random, reply: BUFFER, relay }
+}

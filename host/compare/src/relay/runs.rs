@@ -1,0 +1,114 @@
+//! Runs: a fresh start, and then calls one after the other on the tables that it left.
+
+use engine::relay::{ALLOWANCES, CONNECTIONS, LEASES};
+use model::{Relay, Tables, PARTNERS, TIME_LIMIT};
+
+use super::boundary::{Boundary, Call, Kind, Lent};
+use super::calls::{Calls, LONG_DATA, SHORT_DATA};
+use super::monitor::{Entry, Fault, Monitor};
+
+/// How the clock goes between two calls.
+#[derive(Clone, Copy, Debug)]
+enum Clock {
+    Stands,
+    /// A second now and then: a flood spends faster than it is refilled.
+    Creeps,
+    Steps,
+    /// Stands mostly, and at times jumps as far as a lease lasts.
+    Jumps,
+}
+
+/// What a run is like.
+#[derive(Clone, Copy, Debug)]
+pub struct Run {
+    start: u64,
+    clock: Clock,
+    /// A partner that makes half of all calls, with much data.
+    flooding: Option<usize>,
+    /// So many partners, from the first, make calls; the fewer, the more each has of them.
+    partners: usize,
+}
+
+impl Run {
+    pub fn any(calls: &mut Calls) -> Self {
+        let random = &mut *calls.random;
+        let partners = random.choice(&[1, 2, PARTNERS]);
+        Self {
+            start: random.choice(&[0, 1, 100, 1 << 32, TIME_LIMIT - 8_000, TIME_LIMIT - 50]),
+            clock: random.choice(&[Clock::Stands, Clock::Creeps, Clock::Steps, Clock::Jumps]),
+            flooding: (!random.one_in(3)).then(|| random.below(partners)),
+            partners,
+        }
+    }
+
+    /// The fresh start, and tables with any bytes to make it on.
+    pub fn start(&self, calls: &mut Calls) -> (Call, Tables) {
+        let tables = [CONNECTIONS, LEASES, ALLOWANCES].map(|length| calls.random.part(calls.pool, length).to_vec());
+        let [connections, leases, allowances] = tables;
+        (Call { now: self.start, kind: Kind::Fresh }, Tables { connections, leases, allowances })
+    }
+
+    /// The next call, one in six spoiled, in one thing or in several.
+    pub fn next(&self, calls: &mut Calls, relay: &Relay) -> Call {
+        let now = self.tick(calls, relay.clock());
+        let mut call = match self.flooding {
+            Some(partner) if calls.random.one_in(2) => self.flooding_call(calls, relay, now, partner),
+            _ => {
+                let partner = calls.random.below(self.partners);
+                any_call_of(calls, relay, now, partner, SHORT_DATA)
+            }
+        };
+        while calls.random.one_in(6) {
+            calls.spoil(&mut call, relay.clock());
+        }
+        call
+    }
+
+    fn flooding_call(&self, calls: &mut Calls, relay: &Relay, now: u64, partner: usize) -> Call {
+        let flood = calls.flood(relay, now, partner).filter(|_| calls.random.one_in(2));
+        flood.unwrap_or_else(|| any_call_of(calls, relay, now, partner, LONG_DATA))
+    }
+
+    /// The time of the next call; it stops just below the limit.
+    fn tick(&self, calls: &mut Calls, clock: u64) -> u64 {
+        let random = &mut *calls.random;
+        let step = match self.clock {
+            Clock::Stands => 0,
+            Clock::Creeps => random.one_in(12).into(),
+            Clock::Steps => random.choice(&[0, 0, 0, 1, 2, 3]),
+            Clock::Jumps if random.one_in(60) => random.choice(&[1, 60, 1_800, 3_599, 3_600, 3_601]),
+            Clock::Jumps => 0,
+        };
+        (clock + step).min(TIME_LIMIT - 1)
+    }
+}
+
+/// A call of one of the partner's connections.
+fn any_call_of(calls: &mut Calls, relay: &Relay, now: u64, partner: usize, data: &[usize]) -> Call {
+    let connection = partner * 8 + calls.random.below(8);
+    calls.suitable(relay, now, connection, data)
+}
+
+/// Makes a run of one relay by itself, followed by the monitor.
+pub fn follow(subject: &impl Boundary, calls: &mut Calls, length: usize) -> Result<(), Fault> {
+    let run = Run::any(calls);
+    let (start, mut tables) = run.start(calls);
+    let mut lent = Lent::new(&tables, &start);
+    subject.call(&start, &mut lent);
+    let mut monitor = Monitor::new(start.now);
+    for _ in 0..length {
+        tables = lent.tables();
+        let relay = decoded(&tables);
+        let call = run.next(calls, &relay);
+        lent = Lent::new(&tables, &call);
+        let answer = subject.call(&call, &mut lent);
+        monitor.record(&Entry::new(&relay, &call, answer.number))?;
+        monitor.check_levels(&decoded(&lent.tables()))?;
+    }
+    Ok(())
+}
+
+/// The tables of a run as records.
+pub fn decoded(tables: &Tables) -> Relay {
+    Relay::decode(tables).expect("no call changes the sizes")
+}

@@ -1,0 +1,156 @@
+//! Tables from anywhere: random bytes, and nearly valid ones whose fields stand at the edges.
+
+use model::{Relay, Tables, CONNECTIONS, LEASES, LEVEL_LIMIT, PARTNERS, TIME_LIMIT};
+
+use crate::random::Random;
+
+const CONNECTION_LENGTH: usize = 64;
+const LEASE_LENGTH: usize = 40;
+const ALLOWANCE_LENGTH: usize = 16;
+
+/// Levels around what calls cost (32 and more, at most 65,566) and around the limit.
+const LEVELS: [u64; 13] =
+    [0, 31, 32, 33, 34, 57, 58, 65_565, 65_566, LEVEL_LIMIT - 1, LEVEL_LIMIT, LEVEL_LIMIT + 1, u64::MAX];
+
+/// Ids that come again and again, some of them not below 2^26.
+const IDS: [u32; 10] = [0, 1, 2, 3, 4, 5, (1 << 26) - 1, 1 << 26, (1 << 26) + 1, u32::MAX];
+
+/// Tables of the right sizes.
+pub fn any(random: &mut Random, now: u64) -> Tables {
+    let mut tables = if random.one_in(6) { random_bytes(random) } else { nearly_valid(random, now) };
+    let clock = clock_near(random, now).to_be_bytes();
+    tables.allowances[PARTNERS * ALLOWANCE_LENGTH + 8..].copy_from_slice(&clock);
+    tables
+}
+
+fn random_bytes(random: &mut Random) -> Tables {
+    let mut connections = random.bytes(CONNECTIONS * CONNECTION_LENGTH);
+    // Else hardly one in a hundred connections were not closed.
+    for record in connections.chunks_exact_mut(CONNECTION_LENGTH) {
+        record[0] %= 5;
+    }
+    let leases = random.bytes(LEASES * LEASE_LENGTH);
+    Tables { connections, leases, allowances: random.bytes((PARTNERS + 1) * ALLOWANCE_LENGTH) }
+}
+
+fn nearly_valid(random: &mut Random, now: u64) -> Tables {
+    let mut connections: Vec<u8> = (0..CONNECTIONS).flat_map(|number| connection(random, number)).collect();
+    for _ in 0..random.below(40) {
+        name_each_other(random, &mut connections);
+    }
+    let cookies: [Vec<u8>; 4] = [0, 1, 2, 3].map(|_| random.bytes(24));
+    let leases = (0..PARTNERS).flat_map(|partner| leases_of(random, partner, now, &cookies)).collect();
+    let allowances = (0..=PARTNERS).flat_map(|_| allowance(random, now)).collect();
+    Tables { connections, leases, allowances }
+}
+
+fn connection(random: &mut Random, number: usize) -> Vec<u8> {
+    let state = random.mostly(2, &[0, 1, 1, 3, 255]);
+    let peer = match random.below(4) {
+        0 => 255,
+        1 => random.choice(&[number as u8, 64, 254]),
+        2 => connection_near(random, number / 8),
+        _ => random.byte(),
+    };
+    let mut record = vec![state, peer];
+    record.extend(zeros_or_bytes(random, 14));
+    record.extend(zeros_or_bytes(random, 48));
+    record
+}
+
+/// Makes two connections name each other: mostly two of one partner, at times one and the same.
+fn name_each_other(random: &mut Random, connections: &mut [u8]) {
+    let one = random.below(CONNECTIONS);
+    let other = usize::from(connection_near(random, one / 8));
+    connections[one * CONNECTION_LENGTH + 1] = other as u8;
+    connections[other * CONNECTION_LENGTH + 1] = one as u8;
+}
+
+/// A connection, mostly of this partner.
+fn connection_near(random: &mut Random, partner: usize) -> u8 {
+    let partner = if random.one_in(6) { random.below(PARTNERS) } else { partner };
+    (partner * 8 + random.below(8)) as u8
+}
+
+/// The partner's rows: none live, some, most or all.
+fn leases_of(random: &mut Random, partner: usize, now: u64, cookies: &[Vec<u8>]) -> Vec<u8> {
+    let live_percent = random.choice(&[0, 50, 90, 100]);
+    let mut rows = Vec::new();
+    for _ in 0..LEASES / PARTNERS {
+        let live = random.below(100) < live_percent;
+        rows.extend(expiry(random, now, live).to_be_bytes());
+        // Half of them stand in one row alone, so that overlooking this row shows.
+        let id = if random.one_in(2) { random.number() as u32 >> 6 } else { random.choice(&IDS) };
+        rows.extend(id.to_be_bytes());
+        rows.push(match random.below(4) {
+            0 => 255,
+            1 => random.choice(&[64, 128, 254]),
+            _ => connection_near(random, partner),
+        });
+        rows.extend(zeros_or_bytes(random, 3));
+        rows.extend(match random.below(3) {
+            0 => random.bytes(24),
+            _ => cookies[random.below(cookies.len())].clone(),
+        });
+    }
+    rows
+}
+
+fn expiry(random: &mut Random, now: u64, live: bool) -> u64 {
+    if live {
+        random.choice(&[now.saturating_add(1), now.saturating_add(3_600), TIME_LIMIT + 3_600, u64::MAX])
+    } else {
+        random.choice(&[0, now.saturating_sub(1), now, now])
+    }
+}
+
+fn allowance(random: &mut Random, now: u64) -> Vec<u8> {
+    let level = if random.one_in(4) { random.below(300_000) as u64 } else { random.choice(&LEVELS) };
+    let updated = match random.below(8) {
+        0..3 => now,
+        3..6 => now.saturating_sub(1 + random.below(5) as u64),
+        6 => random.choice(&[0, now.saturating_add(1), now.saturating_add(5)]),
+        _ => random.choice(&[TIME_LIMIT, 1 << 63, u64::MAX]),
+    };
+    [level.to_be_bytes(), updated.to_be_bytes()].concat()
+}
+
+/// A latest time at or around this one, mostly not after it.
+fn clock_near(random: &mut Random, now: u64) -> u64 {
+    let later = [now.saturating_add(1), TIME_LIMIT - 1, TIME_LIMIT, u64::MAX];
+    match random.below(12) {
+        0 => random.choice(&later),
+        1..4 => random.choice(&[0, now.saturating_sub(1), now.saturating_sub(3_600), now / 2]),
+        _ => now,
+    }
+}
+
+fn zeros_or_bytes(random: &mut Random, length: usize) -> Vec<u8> {
+    if random.one_in(2) {
+        vec![0; length]
+    } else {
+        random.bytes(length)
+    }
+}
+
+/// Brings a partner's level at this time to the cost, or to one more or less.
+pub fn set_level_near(random: &mut Random, tables: &mut Tables, partner: usize, now: u64, cost: u64) {
+    let mut relay = Relay::decode(tables).expect("tables of the right sizes");
+    let allowance = &mut relay.allowances[partner];
+    let seconds = (cost - 1) / model::REFILL;
+    allowance.level = random.choice(&[cost - 1, cost, cost, cost + 1]) - seconds * model::REFILL;
+    allowance.updated = now.saturating_sub(seconds);
+    *tables = relay.encode();
+}
+
+/// Gives one of the tables another size.
+pub fn resize_one(random: &mut Random, tables: &mut Tables) {
+    let table = match random.below(3) {
+        0 => &mut tables.connections,
+        1 => &mut tables.leases,
+        _ => &mut tables.allowances,
+    };
+    let right = table.len();
+    let wrong = [0, 1, right / 2, right - 1, right + 1, 2 * right, right + 16];
+    table.resize(random.choice(&wrong), 0);
+}

@@ -1,0 +1,90 @@
+//! The comparison of the relays can fail: each wrong answer and each wrong byte is noticed, and the right ones aren't.
+
+use compare::guarded::Guarded;
+use compare::relay::agree;
+use compare::relay::boundary::{Boundary, Call, Kind, Lent, Second};
+use engine::relay::Answer;
+use model::{Relay, Tables};
+
+/// Answers as the second implementation does, and then spoils something.
+#[derive(Clone, Copy)]
+struct Spoiled {
+    answer: fn(&mut Answer),
+    lent: fn(&mut Lent),
+}
+
+const UNSPOILED: Spoiled = Spoiled { answer: |_| {}, lent: |_| {} };
+
+const SPOILED_ANSWERS: [fn(&mut Answer); 5] = [
+    |answer| answer.number ^= 9,
+    |answer| answer.reply ^= 1,
+    |answer| answer.relay ^= 1,
+    |answer| answer.destination ^= 1,
+    |answer| answer.disconnect ^= 1,
+];
+
+const SPOILED_BYTES: [fn(&mut Lent); 14] = [
+    |lent| first(&mut lent.connections),
+    |lent| last(&mut lent.connections),
+    |lent| first(&mut lent.leases),
+    |lent| last(&mut lent.leases),
+    |lent| first(&mut lent.allowances),
+    |lent| last(&mut lent.allowances),
+    |lent| first(&mut lent.message),
+    |lent| last(&mut lent.message),
+    |lent| first(&mut lent.random),
+    |lent| last(&mut lent.random),
+    |lent| first(&mut lent.reply),
+    |lent| last(&mut lent.reply),
+    |lent| first(&mut lent.relay),
+    |lent| last(&mut lent.relay),
+];
+
+fn first(buffer: &mut Guarded) {
+    buffer.lend_mut()[0] ^= 1;
+}
+
+fn last(buffer: &mut Guarded) {
+    *buffer.lend_mut().last_mut().expect("a buffer with room") ^= 1;
+}
+
+impl Boundary for Spoiled {
+    fn call(&self, call: &Call, lent: &mut Lent) -> Answer {
+        let mut answer = Second.call(call, lent);
+        (self.answer)(&mut answer);
+        (self.lent)(lent);
+        answer
+    }
+}
+
+/// A keepalive of an open connection, which is accepted, and one that comes too late.
+fn accepted_and_refused() -> (Tables, [Call; 2]) {
+    let mut tables = Relay::fresh(100).encode();
+    tables.connections[0] = 2;
+    let keepalive = |now| Call {
+        now,
+        kind: Kind::Message { connection: 0, message: vec![13], random: vec![0; 80], reply: 64, relay: 64 },
+    };
+    (tables, [100, 1 << 40].map(keepalive))
+}
+
+#[test]
+fn a_wrong_answer() {
+    let (tables, calls) = accepted_and_refused();
+    for call in calls {
+        assert!(agree::call(&UNSPOILED, &tables, &call).is_ok());
+        for answer in SPOILED_ANSWERS {
+            assert!(agree::call(&Spoiled { answer, ..UNSPOILED }, &tables, &call).is_err());
+        }
+    }
+}
+
+#[test]
+fn a_wrong_byte_of_anything_lent() {
+    let (tables, calls) = accepted_and_refused();
+    for call in calls {
+        for lent in SPOILED_BYTES {
+            assert!(agree::call(&Spoiled { lent, ..UNSPOILED }, &tables, &call).is_err());
+        }
+    }
+}

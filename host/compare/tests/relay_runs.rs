@@ -1,0 +1,71 @@
+//! Runs of hundreds of calls from a fresh start, compared call by call and followed by the monitor of the allowances.
+
+use compare::difference::Difference;
+use compare::relay::agree;
+use compare::relay::boundary::Proved;
+use compare::relay::calls::Calls;
+use compare::relay::monitor::{Entry, Fault, Monitor};
+use compare::relay::reached::Reached;
+use compare::relay::runs::{decoded, Run};
+use compare::{amount, forms};
+
+const RUNS: u64 = 250;
+const CALLS_OF_EACH: usize = 500;
+
+/// What ends a run before its time.
+#[derive(Debug)]
+#[allow(dead_code, reason = "shown where a test fails")]
+enum Failure {
+    Differs(Difference),
+    Demand(Fault),
+}
+
+impl From<Difference> for Failure {
+    fn from(difference: Difference) -> Self {
+        Self::Differs(difference)
+    }
+}
+
+impl From<Fault> for Failure {
+    fn from(fault: Fault) -> Self {
+        Self::Demand(fault)
+    }
+}
+
+#[test]
+fn runs_of_both_relays() -> Result<(), Failure> {
+    let mut random = amount::random();
+    let mut reached = Reached::default();
+    let pool = forms::pool(&mut random);
+    let mut calls = Calls { random: &mut random, pool: &pool };
+    for _ in 0..amount::rounds(RUNS) {
+        compare_run(&mut calls, &mut reached)?;
+    }
+    let answers: [(_, &[u32]); 4] = [
+        ("fresh", &[0]),
+        ("open", &[0, 2, 3, 4, 5, 9]),
+        ("message", &[0, 2, 3, 4, 5, 6, 7, 8, 9]),
+        ("close", &[0, 2, 3, 4, 5]),
+    ];
+    reached.assert_all(&answers);
+    Ok(())
+}
+
+fn compare_run(calls: &mut Calls, reached: &mut Reached) -> Result<(), Failure> {
+    let run = Run::any(calls);
+    let (start, anything) = run.start(calls);
+    let begun = agree::call(&Proved, &anything, &start)?;
+    reached.count(&anything, &start, &begun);
+    let mut monitor = Monitor::new(start.now);
+    let mut tables = begun.lent.tables();
+    for _ in 0..CALLS_OF_EACH {
+        let relay = decoded(&tables);
+        let call = run.next(calls, &relay);
+        let outcome = agree::call(&Proved, &tables, &call)?;
+        reached.count(&tables, &call, &outcome);
+        monitor.record(&Entry::new(&relay, &call, outcome.answer.number))?;
+        tables = outcome.lent.tables();
+        monitor.check_levels(&decoded(&tables))?;
+    }
+    Ok(())
+}

@@ -1,0 +1,144 @@
+//! include/crondelith.h, name by name without the prefix `crondelith_`: the relay.
+
+use std::mem::{align_of, offset_of, size_of};
+
+/// The archive of these functions, for a C program to link too.
+pub const ARCHIVE: &str = env!("CRONDELITH_LINKED_RELAY");
+
+/// The sizes of the three tables.
+pub const CONNECTIONS: usize = 4096;
+pub const LEASES: usize = 5120;
+pub const ALLOWANCES: usize = 144;
+/// Random bytes that a message is lent.
+pub const RANDOM: usize = 80;
+/// The least reply buffer; a relay buffer also holds as many bytes as the message.
+pub const BUFFER: usize = 64;
+pub const NOBODY: u32 = 255;
+
+/// `crondelith_answer`.
+#[repr(C)]
+#[derive(Clone, Copy, Debug, PartialEq, Eq)]
+pub struct Answer {
+    /// 0, or the check that refused the call: then nothing has changed.
+    pub number: u32,
+    /// Bytes at the start of the reply buffer, for the caller's connection.
+    pub reply: u32,
+    /// Bytes at the start of the relay buffer, for the destination.
+    pub relay: u32,
+    /// A connection, or [`NOBODY`].
+    pub destination: u32,
+    /// 1: the host has to disconnect the caller.
+    pub disconnect: u32,
+}
+
+// host/c/crondelith_check.c has the same numbers about the header's struct.
+const _: () = assert!(size_of::<Answer>() == 20 && align_of::<Answer>() == 4 && offset_of!(Answer, disconnect) == 16);
+
+/// The three tables, lent for a call. Another length than the table's is refused.
+#[derive(Debug)]
+pub struct Tables<'a> {
+    pub connections: &'a mut [u8],
+    pub leases: &'a mut [u8],
+    pub allowances: &'a mut [u8],
+}
+
+/// Declares functions of the header: each takes the three tables first, every one as pointer and length, and then these
+/// arguments.
+macro_rules! declare {
+    ($($function:ident($($argument:ident: $type:ty),+);)+) => {
+        mod c {
+            extern "C" {
+                $(pub fn $function(
+                    connections: *mut u8,
+                    connections_length: usize,
+                    leases: *mut u8,
+                    leases_length: usize,
+                    allowances: *mut u8,
+                    allowances_length: usize,
+                    $($argument: $type),+
+                ) -> super::Answer;)+
+            }
+        }
+    };
+}
+
+declare! {
+    crondelith_fresh(now: u64);
+    crondelith_open(now: u64, connection: u64, reply: *mut u8, reply_length: usize);
+    crondelith_message(
+        now: u64,
+        connection: u64,
+        message: *const u8,
+        message_length: usize,
+        random: *const u8,
+        random_length: usize,
+        reply: *mut u8,
+        reply_length: usize,
+        relay: *mut u8,
+        relay_length: usize
+    );
+    crondelith_close(now: u64, connection: u64, relay: *mut u8, relay_length: usize);
+}
+
+/// Calls a function declared so.
+///
+/// SAFETY of every call: each pointer and length are those of a slice borrowed for the call, so the memory is there, and
+/// a `&mut` slice overlaps nothing else. The functions are total, stay within the lengths they are given and keep no
+/// pointer, as proved of them. That the declarations above are the header's is what the tests of `compare` show, by
+/// calling each function with every kind of argument.
+macro_rules! call {
+    ($function:ident, $tables:ident, $($argument:expr),+) => {
+        unsafe {
+            c::$function(
+                $tables.connections.as_mut_ptr(),
+                $tables.connections.len(),
+                $tables.leases.as_mut_ptr(),
+                $tables.leases.len(),
+                $tables.allowances.as_mut_ptr(),
+                $tables.allowances.len(),
+                $($argument),+
+            )
+        }
+    };
+}
+
+/// Makes a fresh relay of the tables.
+pub fn fresh(tables: Tables, now: u64) -> Answer {
+    call!(crondelith_fresh, tables, now)
+}
+
+/// Opens a connection: the reply is the version message.
+pub fn open(tables: Tables, now: u64, connection: u64, reply: &mut [u8]) -> Answer {
+    call!(crondelith_open, tables, now, connection, reply.as_mut_ptr(), reply.len())
+}
+
+/// Takes a message from a connection.
+pub fn message(
+    tables: Tables,
+    now: u64,
+    connection: u64,
+    message: &[u8],
+    random: &[u8],
+    reply: &mut [u8],
+    relay: &mut [u8],
+) -> Answer {
+    call!(
+        crondelith_message,
+        tables,
+        now,
+        connection,
+        message.as_ptr(),
+        message.len(),
+        random.as_ptr(),
+        random.len(),
+        reply.as_mut_ptr(),
+        reply.len(),
+        relay.as_mut_ptr(),
+        relay.len()
+    )
+}
+
+/// Closes a connection.
+pub fn close(tables: Tables, now: u64, connection: u64, relay: &mut [u8]) -> Answer {
+    call!(crondelith_close, tables, now, connection, relay.as_mut_ptr(), relay.len())
+}

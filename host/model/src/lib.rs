@@ -1,0 +1,25 @@
+//! The relay, written from the project's scope alone: a second implementation that shares nothing with the proved one
+//! but the papers. The three tables are decoded to typed records ([`Relay`]), a call acts on these, and what it leaves
+//! is encoded again if the call is accepted.
+
+mod calls;
+mod leases;
+mod records;
+mod relay;
+mod requests;
+mod sessions;
+
+pub use calls::{close, fresh, message, open, Answer, Refusal};
+pub use leases::Offer;
+pub use records::{Allowance, Connection, Lease, Session, State};
+pub use relay::{partner_of, Relay, Tables, CONNECTIONS, LEASES, PARTNERS};
+pub use requests::{cost, RandomBytes, Request, BASE_COST};
+
+/// No connection: as a peer, a holder or a destination.
+pub const NOBODY: u8 = 255;
+/// Times are below this: "the reading is 2^40 or more" is refused.
+pub const TIME_LIMIT: u64 = 1 << 40;
+/// The most that a partner's level can be.
+pub const LEVEL_LIMIT: u64 = 262_144;
+/// What a level gains with each second, up to the limit.
+pub const REFILL: u64 = 65_536;

@@ -1,0 +1,167 @@
+//! The scope's twelve worked examples, by their numbers there, through the four calls.
+
+use model::{close, fresh, message, open, Answer, Relay, Tables, LEVEL_LIMIT, NOBODY, TIME_LIMIT};
+
+/// A fresh relay at this time.
+fn relay(now: u64) -> Tables {
+    let mut tables = Tables { connections: vec![7; 4096], leases: vec![7; 5120], allowances: vec![7; 144] };
+    assert_eq!(fresh(&mut tables, now).number, 0);
+    tables
+}
+
+/// A fresh relay with these connections open.
+fn relay_with(now: u64, connections: &[u64]) -> Tables {
+    let mut tables = relay(now);
+    for &connection in connections {
+        assert_eq!(open(&mut tables, now, connection, &mut [0; 64]).number, 0);
+        assert_eq!(send(&mut tables, now, connection, &[1, 1]).answer.number, 0);
+    }
+    tables
+}
+
+struct Sent {
+    answer: Answer,
+    reply: Vec<u8>,
+    relay: Vec<u8>,
+}
+
+/// The random bytes of every message here: the first candidate is 0x04000001.
+const RANDOM: [u8; 80] = {
+    let mut bytes = [9; 80];
+    [bytes[24], bytes[25], bytes[26], bytes[27]] = [4, 0, 0, 1];
+    bytes
+};
+
+fn send(tables: &mut Tables, now: u64, connection: u64, bytes: &[u8]) -> Sent {
+    let (mut reply, mut relay) = (vec![0; 64], vec![0; 64.max(bytes.len())]);
+    let answer = message(tables, now, connection, bytes, &RANDOM, &mut reply, &mut relay);
+    reply.truncate(answer.reply);
+    relay.truncate(answer.relay);
+    Sent { answer, reply, relay }
+}
+
+/// Asks for a session under the id of the random bytes, and gives the status.
+fn establish_with_id_1(tables: &mut Tables, now: u64, connection: u64) -> u8 {
+    send(tables, now, connection, &[6, 0, 0, 0, 1]).reply[5]
+}
+
+/// Sets the level and the time of the last charge of partner 0.
+fn set_allowance(tables: &mut Tables, level: u64, updated: u64) {
+    let mut relay = Relay::decode(tables).expect("tables of the right sizes");
+    (relay.allowances[0].level, relay.allowances[0].updated) = (level, updated);
+    *tables = relay.encode();
+}
+
+fn level(tables: &Tables) -> u64 {
+    Relay::decode(tables).expect("tables of the right sizes").allowances[0].level
+}
+
+/// Connection 0 in a session with connection 1, which holds id 1.
+fn relay_in_session(now: u64) -> Tables {
+    let mut tables = relay_with(now, &[0, 1]);
+    assert_eq!(send(&mut tables, now, 1, &[2, 0]).reply[..6], [3, 1, 0, 0, 0, 1]);
+    assert_eq!(establish_with_id_1(&mut tables, now, 0), 0);
+    tables
+}
+
+#[test]
+fn case_1_empty_message() {
+    assert_eq!(send(&mut relay_with(100, &[0]), 100, 0, &[]).answer.number, 6);
+}
+
+#[test]
+fn case_2_has_cookie_0_in_26_bytes() {
+    let mut bytes = [0; 26];
+    bytes[0] = 2;
+    assert_eq!(send(&mut relay_with(100, &[0]), 100, 0, &bytes).answer.number, 6);
+}
+
+#[test]
+fn case_3_has_cookie_2() {
+    assert_eq!(send(&mut relay_with(100, &[0]), 100, 0, &[2, 2]).answer.number, 6);
+}
+
+#[test]
+fn case_4_type_11_alone_in_session() {
+    let sent = send(&mut relay_in_session(100), 100, 0, &[11]);
+    assert_eq!(sent.answer, Answer { number: 0, reply: 0, relay: 1, destination: 1, disconnect: false });
+    assert_eq!(sent.relay, [12]);
+}
+
+#[test]
+fn case_5_a_candidate_is_taken_modulo_2_to_the_26() {
+    let granted = send(&mut relay_with(100, &[0]), 100, 0, &[2, 0]);
+    assert_eq!(granted.reply[..6], [3, 1, 0, 0, 0, 1]);
+}
+
+#[test]
+fn case_6_a_lease_is_live_for_an_hour() {
+    for (now, status) in [(3_699, 5), (3_700, 1)] {
+        let mut tables = relay_with(100, &[0]);
+        send(&mut tables, 100, 0, &[2, 0]);
+        assert_eq!(establish_with_id_1(&mut tables, now, 0), status);
+    }
+}
+
+#[test]
+fn case_7_refill() {
+    for (now, refilled) in [(13, 196_608), (14, 262_144), (15, 262_144)] {
+        let mut tables = relay_with(10, &[0]);
+        set_allowance(&mut tables, 0, 10);
+        assert_eq!(send(&mut tables, now, 0, &[13]).answer.number, 0);
+        assert_eq!(level(&tables), refilled - 33);
+    }
+}
+
+#[test]
+fn case_8_the_longest_send() {
+    let longest = [11; 65_534];
+    for (before, number, after) in [(65_565, 9, 65_565), (65_566, 0, 0)] {
+        let mut tables = relay_in_session(100);
+        set_allowance(&mut tables, before, 100);
+        assert_eq!(send(&mut tables, 100, 0, &longest).answer.number, number);
+        assert_eq!(level(&tables), after);
+    }
+}
+
+#[test]
+fn case_9_the_latest_time() {
+    for (now, number) in [(TIME_LIMIT - 1, 0), (TIME_LIMIT, 2)] {
+        assert_eq!(fresh(&mut relay(0), now).number, number);
+        assert_eq!(open(&mut relay(0), now, 0, &mut [0; 64]).number, number);
+        assert_eq!(send(&mut relay_with(0, &[0]), now, 0, &[13]).answer.number, number);
+        assert_eq!(close(&mut relay_with(0, &[0]), now, 0, &mut [0; 64]).number, number);
+    }
+}
+
+#[test]
+fn case_10_the_opening_reply() {
+    let mut reply = [200; 64];
+    let answer = open(&mut relay(100), 100, 63, &mut reply);
+    let nobody = usize::from(NOBODY);
+    assert_eq!(answer, Answer { number: 0, reply: 13, relay: 0, destination: nobody, disconnect: false });
+    assert_eq!(reply[..14], [0, 83, 86, 83, 67, 32, 48, 48, 49, 46, 48, 48, 48, 200]);
+}
+
+#[test]
+fn case_11_an_id_leased_to_nobody() {
+    let sent = send(&mut relay_with(100, &[0]), 100, 0, &[6, 0, 0, 0, 5]);
+    assert_eq!(sent.reply, [7, 0, 0, 0, 5, 1]);
+}
+
+#[test]
+fn case_12_the_own_id() {
+    let mut tables = relay_with(100, &[1]);
+    send(&mut tables, 100, 1, &[2, 0]);
+    assert_eq!(establish_with_id_1(&mut tables, 100, 1), 5);
+    assert_eq!(establish_with_id_1(&mut relay_in_session(100), 100, 1), 4);
+}
+
+#[test]
+fn a_refused_call_alters_no_byte() {
+    let mut tables = relay_with(100, &[0]);
+    set_allowance(&mut tables, LEVEL_LIMIT, 100);
+    let before = tables.clone();
+    assert_eq!(send(&mut tables, 101, 0, &[9]).answer.number, 8);
+    assert_eq!(tables, before);
+}
