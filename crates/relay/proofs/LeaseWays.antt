@@ -2,23 +2,22 @@
 use Rattle.tables.specs.declared.leases.LeaseDecision.{LeaseDecision as Decided}
 use Prim.Native.Nat.{ℕ, _+_, _^_, _≤_, _<_}
 use mathlib.Core.Path.{_≡_, refl}
-use mathlib.Core.Bool.{Bool, true, false, not}
+use mathlib.Core.Bool.{true}
 use mathlib.Core.List.{List, [], _∷_}
 use types.Run.{OneOf, miss}
 use denote.Enum.Declared.{tagOf}
 use native.Mathlib.Omega.{arith}
-use lib.Dec.{ltb}
 use lib.ListN.{length, getD, length-append}
-use borrow.Author.Tests.{lt-ltb, le-ltb, ltb-true, eqb-true, eq-eqb}
-use Rattle.octets.specs.Octets.{if_then_else_, part, put, isBytes}
+use borrow.Author.Tests.{lt-ltb, le-ltb, eqb-true, eq-eqb}
+use Rattle.octets.specs.Octets.{part, put, isBytes}
 use Rattle.octets.proofs.Tests.{both-left, bytes-known, bytes-part}
 use Rattle.octets.proofs.Parts.{length-part}
 use Rattle.octets.proofs.Numbers.{length-bigEndian}
 use Rattle.svsc.specs.Messages.{LeaseRefused, LeaseGranted, ExtensionRefused, ExtensionGranted, encode, wellFormed}
-use Rattle.rules.specs.Sizes.{rowCount, connectionCount, timeLimit, candidateCount}
+use Rattle.rules.specs.Sizes.{timeLimit}
 use Rattle.rules.specs.Tables.{partnerOf, setExpiry}
 use Rattle.rules.specs.Searches.{endRow}
-use Rattle.rules.specs.Leases.{holdsLease, noSpareRow, cookieInUse, noFreeId, granted, randomCookie, leaseEnd, holdsRow, spareRow, cookieTaken, firstFree, candidate, decideLease, grant, rowToExtend}
+use Rattle.rules.specs.Leases.{granted, randomCookie, leaseEnd, grant, rowToExtend}
 use Rattle.rules.specs.Plans.{planLease, planExtension, refuseLease}
 use Rattle.tables.proofs.leases.LeaseDecision.{the-type}
 use Rattle.tables.specs.Leases.{meaning}
@@ -85,30 +84,6 @@ module _ (cs ls al reply relay : List ℕ) (time c : ℕ) where
   not-extended row n cookie reply′ r e h hn hr a = rw (← e, le-ltb row (endRow (partnerOf c)) h, a, hr, hn)
 
 -- ---- decisions
-
--- a row that is granted is one of the table
-pub granted-row : (ls : List ℕ) (time c : ℕ) (random : List ℕ) (row id : ℕ) (cookie : List ℕ) → c < connectionCount → decideLease ls time c random ≡ granted row id cookie
-    → row < rowCount
-unfolding decideLease
-granted-row ls time c random row id cookie k e =
-    by (holdsRow ls time c) (ltb (spareRow ls time (partnerOf c)) (endRow (partnerOf c))) (cookieTaken ls time (partnerOf c) (randomCookie random))
-    (ltb (firstFree ls time random) candidateCount) refl e
-  where
-    by : (h s t f : Bool) → ltb (spareRow ls time (partnerOf c)) (endRow (partnerOf c)) ≡ s
-        → (if h then holdsLease
-        else if not s then noSpareRow
-        else if t then cookieInUse
-        else if not f then noFreeId
-        else granted (spareRow ls time (partnerOf c)) (candidate random (firstFree ls time random)) (randomCookie random))
-        ≡ granted row id cookie → row < rowCount
-    by true s t f l e = let z : _≡_ {A = ℕ} 0 1 = cc in absurd (omega arith)
-    by false false t f l e = let z : _≡_ {A = ℕ} 0 1 = cc in absurd (omega arith)
-    by false true true f l e = let z : _≡_ {A = ℕ} 0 1 = cc in absurd (omega arith)
-    by false true false false l e = let z : _≡_ {A = ℕ} 0 1 = cc in absurd (omega arith)
-    by false true false true l e =
-        let same-row : spareRow ls time (partnerOf c) ≡ row = cc in
-        let below : spareRow ls time (partnerOf c) < endRow (partnerOf c) = ltb-true _ _ l in
-        omega arith
 
 -- the cases that refuse
 abbrev pub refusals : List ℕ

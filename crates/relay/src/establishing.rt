@@ -5,7 +5,6 @@ ghost use mathlib.Core.List.{List};
 ghost use Prim.Native.Nat.{ℕ, _≤_, _<_};
 ghost use lib.Dec.{eqb};
 ghost use lib.ListN.{length};
-ghost use Rattle.octets.specs.Octets.{put};
 ghost use Rattle.svsc.specs.Messages.{encode, Established, EstablishNotification};
 ghost use Rattle.rules.specs.Sizes.{connectionCount, leasesSize, leastBuffer, randomBytes};
 ghost use Rattle.rules.specs.Tables.{partnerOf, ownerOf, isOpen};

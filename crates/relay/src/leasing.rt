@@ -25,8 +25,8 @@ fn grant(
 ) -> Answer
     requires { ⌜ (Leasable (now leases) time c (now reply)) × (length (now random) ≡ randomBytes) × (row < rowCount) ⌝ }
     ensures { λ r. ⌜ ((cs relay : List ℕ) → handled r cs (now (leases .exit)) (now (reply .exit)) relay
-        ≡ applied (planLease (lent cs (now (leases .entry)) (now (allowances .entry))) time c (granted row id (randomCookie (now (random .entry)))))
-        (now (reply .entry)) relay) ⌝ }
+        ≡ applied (planLease (lent cs (now (leases .entry)) (now (allowances .entry))) time c
+        (granted row id (randomCookie (now (random .entry))))) (now (reply .entry)) relay) ⌝ }
 {
     let until = tables::leases::lease_end(allowances, time);
     let cookie = octets::part(random, 0, svsc::COOKIE);

@@ -1,12 +1,11 @@
 // A message from a connection.
 ghost use mathlib.Core.Path.{_≡_};
-ghost use mathlib.Core.Bool.{Bool, not, _&&_, _||_};
-ghost use mathlib.Core.List.{List, [], _∷_};
+ghost use mathlib.Core.Bool.{not, _&&_, _||_};
+ghost use mathlib.Core.List.{List};
 ghost use Prim.Native.Nat.{ℕ, _≤_, _<_, max};
 ghost use lib.ListN.{length};
 ghost use lib.Dec.{eqb};
 ghost use Rattle.svsc.specs.Messages.{decode, longestMessage};
-ghost use Rattle.rules.specs.Sizes.{connectionCount};
 ghost use Rattle.rules.specs.Tables.{hasSession, setClock};
 ghost use Rattle.rules.specs.Calls.{message};
 ghost use Rattle.rules.specs.Charges.{cost, charge};

@@ -1,11 +1,9 @@
 // The version answer, the end of a session, and data sent in one.
 ghost use mathlib.Core.Path.{_≡_};
-ghost use mathlib.Core.Bool.{true};
 ghost use mathlib.Core.List.{List};
-ghost use Prim.Native.Nat.{ℕ, _≤_, _<_};
+ghost use Prim.Native.Nat.{ℕ, _≤_};
 ghost use lib.ListN.{length, drop};
-ghost use Rattle.octets.specs.Octets.{isShort, if_then_else_};
-ghost use Rattle.svsc.specs.Messages.{longestMessage};
+ghost use Rattle.octets.specs.Octets.{if_then_else_};
 ghost use Rattle.rules.specs.Sizes.{leastBuffer};
 ghost use Rattle.rules.specs.Tables.{hasSession};
 ghost use Rattle.rules.specs.Plans.{planVersionAnswer, planEnd, planData, doNothing};

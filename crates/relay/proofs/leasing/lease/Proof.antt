@@ -5,7 +5,9 @@ use Rattle.rules.specs.Leases.{LeaseDecision}
 use Rattle.rules.specs.Plans.{Plan, planLease}
 use Rattle.tables.specs.Leases.{meaning}
 use Rattle.relay.specs.Results.{lent, applied}
-use Rattle.relay.proofs.LeaseWays.{granted-row, refusing}
+use native.Mathlib.Omega.{arith}
+use Rattle.tables.proofs.LeaseDecisions.{granted-row}
+use Rattle.relay.proofs.LeaseWays.{refusing}
 use borrow.Author.Needs.{needs}
 use Rattle.relay.proofs.leasing.lease.Statement.{statement}
 use Rattle.relay.proofs.leasing.lease.Tie as tie
@@ -18,12 +20,10 @@ enum-known-decision c = search needs
 
 grant-requires : tie.Need-grant-requires
 grant-requires c κs =
-    let s = c .before .before .before .before .before .before .before .before .before .before .before in (
-      s .pre .0,
-      s .pre .1,
-      granted-row (s .args .leases .now) (s .args .time) (s .args .c) (s .args .random .now) _ _ _ (s .pre .0 .known)
-          (sym (c .before .before .before .before .before .decide-lease .ensures) ∙ ap (λ (d : Decided). meaning d (s .args .random .now)) (c .before .before .before .decision .given .1)),
-    )
+    let s = c .before .before .before .before .before .before .before .before .before .before .before in
+    let a = s .args in
+    let below = granted-row (a .leases .now) (a .time) (a .c) (a .random .now) (c .before .before .before .before .before .decide-lease .ensures) (c .before .before .before .decision .given .1) in
+    (s .pre .0, s .pre .1, omega (arith, s .pre .0 .known))
 
 refuse-requires : tie.Need-refuse-requires
 refuse-requires c κs = search needs
