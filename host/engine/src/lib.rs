@@ -1,5 +1,8 @@
 //! The proved engine as Rust sees it. Everything `unsafe` of the workspace stands in this crate.
 #![allow(unsafe_code)]
 
+mod aligned;
 pub mod relay;
 pub mod svsc;
+
+pub use aligned::RelayBuffer;

@@ -34,6 +34,12 @@ pub struct Answer {
 // host/c/crondelith_check.c has the same numbers about the header's struct.
 const _: () = assert!(size_of::<Answer>() == 20 && align_of::<Answer>() == 4 && offset_of!(Answer, disconnect) == 16);
 
+impl From<[u32; 5]> for Answer {
+    fn from([number, reply, relay, destination, disconnect]: [u32; 5]) -> Self {
+        Self { number, reply, relay, destination, disconnect }
+    }
+}
+
 /// The three tables, lent for a call. Another length than the table's is refused.
 #[derive(Debug)]
 pub struct Tables<'a> {

@@ -38,6 +38,13 @@ pub struct Answer {
     pub disconnect: bool,
 }
 
+impl Answer {
+    /// The five numbers in the order above, to compare with another relay's.
+    pub fn numbers(self) -> [u32; 5] {
+        [self.number, self.reply as u32, self.relay as u32, self.destination as u32, self.disconnect.into()]
+    }
+}
+
 /// What an accepted call sends and asks for.
 #[derive(Default)]
 struct Sent {

@@ -166,12 +166,6 @@ impl Boundary for Second {
             Kind::Close { connection, .. } => model::close(&mut tables, call.now, connection, relay),
         };
         lent.set_tables(&tables);
-        Answer {
-            number: answer.number,
-            reply: answer.reply as u32,
-            relay: answer.relay as u32,
-            destination: answer.destination as u32,
-            disconnect: answer.disconnect.into(),
-        }
+        Answer::from(answer.numbers())
     }
 }

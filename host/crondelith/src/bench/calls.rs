@@ -1,0 +1,43 @@
+//! Each call of the engine against the same call of the second implementation.
+
+use std::time::Duration;
+
+use super::cases::{self, Case};
+use super::measure::{batch, Comparison};
+use super::relays::{Engine, Lent, Second};
+use super::{compare, Aim, Row, Section};
+use crate::Failure;
+
+pub fn section() -> Result<Section, Failure> {
+    let cases = cases::all().ok_or_else(super::unprepared)?;
+    let rows = cases.into_iter().map(row).collect::<Result<_, _>>()?;
+    Ok(Section { rows, aim: Some(Aim { text: "no call slower than the second implementation", greatest_ratio: 1.0 }) })
+}
+
+fn row(case: Case) -> Result<Row, Failure> {
+    let what = case.what.to_owned();
+    let (engine, second) = (case.prepared.clone(), case.prepared.clone());
+    compare(what, &mut Calls { case, engine, second })
+}
+
+/// A case with the memory of each side.
+struct Calls {
+    case: Case,
+    engine: Lent,
+    second: Lent,
+}
+
+impl Comparison for Calls {
+    fn engine(&mut self) -> Option<Duration> {
+        self.engine.clear();
+        let time = batch(|| self.case.repeat::<Engine>(&mut self.engine))?;
+        self.case.is_replied(&self.engine).then_some(time)
+    }
+
+    /// The second implementation follows the engine, so both have now made the same calls: every byte must be the same.
+    fn other(&mut self) -> Option<Duration> {
+        self.second.clear();
+        let time = batch(|| self.case.repeat::<Second>(&mut self.second))?;
+        (self.engine == self.second).then_some(time)
+    }
+}

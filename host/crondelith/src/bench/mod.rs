@@ -1,0 +1,98 @@
+//! `crondelith bench`: the engine measured side by side with the second implementation and with plain copies.
+
+mod calls;
+mod cases;
+mod copy;
+mod loopback;
+mod measure;
+mod relays;
+
+use crate::arguments::Arguments;
+use crate::{say, Failure, Outcome};
+use measure::{Comparison, Medians};
+
+pub const HELP: &str = "\
+usage: crondelith bench
+
+Measures the proved engine, each time beside something that does the same work.
+
+Prints a Markdown table. A row has the nanoseconds that one repetition takes of the engine and of the other side, which
+is the second implementation unless the row says otherwise, and their ratio: below 1 the engine is faster. Both sides
+are measured in turn, batch by batch, and the median batch counts. Every answer is checked, and after every batch the
+bytes that both sides left. The last row is the whole relay over TCP on this machine, beside a loop that copies from
+one socket to another; its clock jumps, so that nobody waits for an allowance.
+
+It takes some ten seconds, and is meant for a machine with nothing else to do.
+";
+
+/// Rows, and what is hoped of them, if anything.
+struct Section {
+    rows: Vec<Row>,
+    aim: Option<Aim>,
+}
+
+struct Aim {
+    text: &'static str,
+    /// No row of the section may be above it.
+    greatest_ratio: f64,
+}
+
+struct Row {
+    what: String,
+    medians: Medians,
+}
+
+impl Row {
+    fn ratio(&self) -> f64 {
+        self.medians.engine / self.medians.other
+    }
+}
+
+impl Section {
+    fn print(&self) {
+        for row in &self.rows {
+            let Medians { engine, other } = row.medians;
+            say(format_args!("| {} | {engine:.1} | {other:.1} | {:.2} |", row.what, row.ratio()));
+        }
+    }
+
+    /// The aim, and whether it is met.
+    fn judged(&self) -> Option<String> {
+        let Aim { text, greatest_ratio } = self.aim.as_ref()?;
+        let met = self.rows.iter().all(|row| row.ratio() <= *greatest_ratio);
+        Some(format!("{text}: {}", if met { "met" } else { "not met" }))
+    }
+}
+
+/// The sections, in the table's order.
+const SECTIONS: [fn() -> Result<Section, Failure>; 3] = [calls::section, copy::section, loopback::section];
+
+pub fn run(arguments: Arguments) -> Outcome {
+    arguments.others([])?;
+    if cfg!(debug_assertions) {
+        say("This is a debug build: its numbers mean nothing.\n");
+    }
+    say("| what | engine ns | other ns | engine / other |\n|---|---:|---:|---:|");
+    let sections = SECTIONS.into_iter().map(measured).collect::<Result<Vec<_>, _>>()?;
+    let aims = sections.iter().filter_map(Section::judged).collect::<Vec<_>>();
+    say(format_args!("\nAims: {}.", aims.join("; ")));
+    Ok(())
+}
+
+fn measured(section: fn() -> Result<Section, Failure>) -> Result<Section, Failure> {
+    let section = section()?;
+    section.print();
+    Ok(section)
+}
+
+/// Measures a row. A side that answers wrongly, or leaves other bytes than it should, measures nothing.
+fn compare(what: String, comparison: &mut impl Comparison) -> Result<Row, Failure> {
+    match measure::in_turn(comparison) {
+        Some(medians) => Ok(Row { what, medians }),
+        None => Err(Failure::Failed(format!("bench: wrong answers or bytes in '{what}'"))),
+    }
+}
+
+fn unprepared() -> Failure {
+    Failure::Failed("bench: the engine refused a call that prepares the tables".into())
+}

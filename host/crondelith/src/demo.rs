@@ -1,0 +1,132 @@
+//! `crondelith demo`: one partner floods a relay while another sends a file through it.
+
+use std::io;
+use std::net::SocketAddr;
+use std::thread::{self, JoinHandle};
+use std::time::{Duration, Instant};
+
+use codec::Message;
+use peer::{grouped, receive_file, send_file, Peer};
+use server::{bind, Clock, Log, Server, Settings, Statistics, SystemClock, CONNECTIONS_EACH};
+
+use crate::arguments::Arguments;
+use crate::{say, Failure, Outcome};
+
+pub const HELP: &str = "\
+usage: crondelith demo
+
+Runs a relay on free ports of this machine and sends a file of 512 KiB through it, by itself and then while another
+partner floods the relay: eight connections that request leases without end. Prints what each partner got and how long
+the file took. Ends by itself in some fifteen seconds, with exit status 1 if the file didn't arrive unchanged.
+";
+
+/// Which partner floods, and which sends the file.
+const FLOOD: usize = 0;
+const FILE: usize = 1;
+const FILE_LENGTH: usize = 512 * 1024;
+/// By then the flood has used up its allowance.
+const FLOOD_LEAD: Duration = Duration::from_millis(800);
+/// Lease requests that a flooding connection sends at a time.
+const BURST: usize = 64;
+
+pub fn run(arguments: Arguments) -> Outcome {
+    arguments.others([])?;
+    let file = contents();
+    say(format_args!("Partner {FILE} sends a file of 512 KiB through the relay, by itself .."));
+    let alone = scene(&file, false).map_err(failed)?;
+    say(format_args!("\n.. and while partner {FLOOD} floods the relay from eight connections with lease requests."));
+    let flooded = scene(&file, true).map_err(failed)?;
+    say(format_args!("\n{:<34}{:>12}{:>15}{:>12}", "", "calls done", "made to wait", "bytes"));
+    row("by itself: the file", &alone.got[FILE]);
+    row("with the flood: the file", &flooded.got[FILE]);
+    row("with the flood: the flood", &flooded.got[FLOOD]);
+    let (without, with) = (alone.time.as_secs_f64(), flooded.time.as_secs_f64());
+    say(format_args!(
+        "\nThe file arrived unchanged both times: in {without:.1} s by itself, in {with:.1} s with the flood."
+    ));
+    say(format_args!("What is beyond a partner's allowance waits, here the end of the file and most of the flood."));
+    Ok(())
+}
+
+fn failed(why: String) -> Failure {
+    Failure::Failed(format!("the file didn't arrive: {why}"))
+}
+
+fn row(name: &str, Statistics { done, waited, bytes, .. }: &Statistics) {
+    let [done, waited, bytes] = [done, waited, bytes].map(|number| grouped(*number));
+    say(format_args!("{name:<34}{done:>12}{waited:>15}{bytes:>12}"));
+}
+
+/// What came of sending the file.
+struct Scene {
+    time: Duration,
+    got: [Statistics; server::PARTNERS],
+}
+
+/// Sends the file through a relay of its own, so that each time starts with full allowances.
+fn scene(file: &[u8], with_flood: bool) -> Result<Scene, String> {
+    let server =
+        bind(None).and_then(|listeners| Server::start(listeners, Settings::new(SystemClock, Log::new(|_| ()))));
+    let server = server.map_err(|error| format!("no relay: {error}"))?;
+    let addresses = server.addresses();
+    let flood = if with_flood { start_flood(addresses[FLOOD]) } else { Ok(Vec::new()) };
+    let flood = flood.map_err(|error| error.to_string())?;
+    // Allowances refill by whole seconds, so both times start with one.
+    thread::sleep(SystemClock.until_next());
+    let transferred = transfer(addresses[FILE], file);
+    let got = server.stop();
+    for connection in flood {
+        // The relay's end is what ends it.
+        let _ = connection.join();
+    }
+    let (time, received) = transferred?;
+    if received != file {
+        return Err(format!("{} bytes of {} came, and not the same", received.len(), file.len()));
+    }
+    Ok(Scene { time, got })
+}
+
+/// Sends the file from one connection to another of the partner and gives how long it took and what came.
+fn transfer(address: SocketAddr, file: &[u8]) -> Result<(Duration, Vec<u8>), String> {
+    let mut holder = Peer::connect(address).map_err(|error| error.to_string())?;
+    let id = holder.lease().map_err(|error| error.to_string())?;
+    let receiver = thread::spawn(move || {
+        let mut received = Vec::new();
+        receive_file(&mut holder, &mut received, |_, _| ()).map(|_| received)
+    });
+    let mut sender = Peer::connect(address).map_err(|error| error.to_string())?;
+    let start = Instant::now();
+    send_file(&mut sender, id, file, file.len() as u64, |_, _| ()).map_err(|error| error.to_string())?;
+    let time = start.elapsed();
+    let received = receiver.join().map_err(|_| "the receiver failed")?;
+    Ok((time, received.map_err(|error| error.to_string())?))
+}
+
+/// Starts eight connections that request leases until the relay ends.
+fn start_flood(address: SocketAddr) -> io::Result<Vec<JoinHandle<()>>> {
+    let start = |_| thread::Builder::new().spawn(move || flood(address));
+    let connections = (0..CONNECTIONS_EACH).map(start).collect();
+    thread::sleep(FLOOD_LEAD);
+    connections
+}
+
+fn flood(address: SocketAddr) {
+    let Ok(mut peer) = Peer::connect(address) else { return };
+    // It ends with the relay.
+    while (0..BURST).try_for_each(|_| peer.send(&Message::LeaseRequest)).is_ok()
+        && (0..BURST).try_for_each(|_| peer.receive().map(|_| ())).is_ok()
+    {}
+}
+
+/// Bytes that don't repeat, so that a part lost or moved shows.
+fn contents() -> Vec<u8> {
+    let mut state = 1_u32;
+    let mut next = || {
+        // xorshift32
+        state ^= state << 13;
+        state ^= state >> 17;
+        state ^= state << 5;
+        state.to_be_bytes()
+    };
+    (0..FILE_LENGTH / 4).flat_map(|_| next()).collect()
+}

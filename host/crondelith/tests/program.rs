@@ -1,0 +1,215 @@
+//! The program as its users see it: what it prints, its exit statuses, a file through a relay, the interrupt.
+
+use std::fs;
+use std::io::{BufRead, BufReader, Read};
+use std::net::TcpListener;
+use std::path::{Path, PathBuf};
+use std::process::{Child, Command, Output, Stdio};
+use std::thread;
+use std::time::{Duration, Instant};
+
+const PROGRAM: &str = env!("CARGO_BIN_EXE_crondelith");
+
+fn run(arguments: &[&str]) -> Output {
+    Command::new(PROGRAM).args(arguments).stdin(Stdio::null()).output().expect("the program runs")
+}
+
+fn stdout(output: &Output) -> String {
+    String::from_utf8_lossy(&output.stdout).into_owned()
+}
+
+fn stderr(output: &Output) -> String {
+    String::from_utf8_lossy(&output.stderr).into_owned()
+}
+
+/// A folder of its own for a test.
+fn folder(name: &str) -> PathBuf {
+    let folder = Path::new(env!("CARGO_TARGET_TMPDIR")).join(name);
+    let _ = fs::remove_dir_all(&folder);
+    fs::create_dir_all(&folder).expect("a folder for the test");
+    folder
+}
+
+#[test]
+fn every_command_has_help() {
+    for arguments in [&["--help"][..], &["serve", "--help"], &["peer", "--help"], &["demo", "--help"], &["bench", "-h"]]
+    {
+        let output = run(arguments);
+        assert_eq!(output.status.code(), Some(0), "{arguments:?}");
+        assert!(stdout(&output).contains("usage: crondelith"), "{arguments:?}");
+        assert_eq!(stderr(&output), "", "{arguments:?}");
+    }
+}
+
+#[test]
+fn wrong_arguments_give_one_line_and_status_2() {
+    let wrong: [(&[&str], &str); 18] = [
+        (&[], "a command is missing"),
+        (&["dance"], "no command 'dance'"),
+        (&["serve", "surplus"], "'surplus' is one argument too many"),
+        (&["serve", "--port", "1"], "no option '--port'"),
+        (&["serve", "--base-port"], "'--base-port' needs a value"),
+        (&["serve", "--base-port", "x"], "'--base-port' is a number from 1 to 65528, not 'x'"),
+        (&["serve", "--base-port=65529"], "not '65529'"),
+        (&["serve", "--base-port", "0"], "not '0'"),
+        (&["serve", "--base-port", "1", "--base-port", "2"], "given twice"),
+        (&["demo", "--fast"], "no option '--fast'"),
+        (&["bench", "all"], "'all' is one argument too many"),
+        (&["peer"], ""),
+        (&["peer", "dance"], "dance"),
+        (&["peer", "receive"], "missing"),
+        (&["peer", "send", "5"], "missing"),
+        (&["peer", "send", "five", "file"], "five"),
+        (&["peer", "send", "5", "file", "--partner", "8"], "not '8'"),
+        (&["peer", "receive", "file", "surplus"], "surplus"),
+    ];
+    for (arguments, reason) in wrong {
+        let output = run(arguments);
+        let line = stderr(&output);
+        assert_eq!(output.status.code(), Some(2), "{arguments:?}: {line}");
+        assert!(line.starts_with("crondelith: ") && line.contains(reason), "{arguments:?}: {line}");
+        assert_eq!(line.lines().count(), 1, "{arguments:?}: {line}");
+        assert_eq!(stdout(&output), "", "{arguments:?}");
+    }
+}
+
+#[test]
+fn a_port_in_use_is_named() {
+    let taken = TcpListener::bind("127.0.0.1:0").expect("a port");
+    let port = taken.local_addr().expect("its address").port();
+    // Partner 2's.
+    let output = run(&["serve", "--base-port", &(port - 2).to_string()]);
+    assert_eq!(output.status.code(), Some(1));
+    assert!(stderr(&output).contains("crondelith: port "), "{}", stderr(&output));
+    assert_eq!(stderr(&output).lines().count(), 1);
+}
+
+#[test]
+fn a_peer_says_that_nothing_listens() {
+    let unused = TcpListener::bind("127.0.0.1:0").expect("a port").local_addr().expect("its address").port();
+    let output = run(&["peer", "send", "5", PROGRAM, "--base-port", &unused.to_string()]);
+    assert_eq!(output.status.code(), Some(1));
+    assert_eq!(stderr(&output).lines().count(), 1, "{}", stderr(&output));
+}
+
+#[test]
+fn a_file_that_is_there_is_not_replaced() {
+    let file = folder("not_replaced").join("there");
+    fs::write(&file, "kept").expect("a file");
+    let output = run(&["peer", "receive", file.to_str().expect("a path")]);
+    assert_eq!(output.status.code(), Some(2), "{}", stderr(&output));
+    assert_eq!(fs::read(&file).expect("the file"), b"kept");
+}
+
+/// A relay that serves, ended with the test.
+struct Relay {
+    child: Child,
+    base_port: String,
+    log: BufReader<std::process::ChildStderr>,
+}
+
+impl Relay {
+    /// Eight ports in a row that are free are looked for.
+    fn start() -> Self {
+        (0..50).find_map(|_| Self::try_start()).expect("eight free ports in a row")
+    }
+
+    fn try_start() -> Option<Self> {
+        let port = TcpListener::bind("127.0.0.1:0").ok()?.local_addr().ok()?.port();
+        let base_port = port.to_string();
+        let mut child = Command::new(PROGRAM)
+            .args(["serve", "--base-port", &base_port])
+            .stderr(Stdio::piped())
+            .spawn()
+            .expect("the program runs");
+        let log = BufReader::new(child.stderr.take().expect("its log"));
+        let mut relay = Self { log, child, base_port };
+        relay.await_line("the relay runs").then_some(relay)
+    }
+
+    fn await_line(&mut self, text: &str) -> bool {
+        let mut line = String::new();
+        while self.log.read_line(&mut line).is_ok_and(|length| length > 0) {
+            if line.contains(text) {
+                return true;
+            }
+            line.clear();
+        }
+        false
+    }
+
+    fn peer(&self, arguments: &[&str]) -> Command {
+        let mut command = Command::new(PROGRAM);
+        command.arg("peer").args(arguments).args(["--partner", "3", "--base-port", &self.base_port]);
+        command.stdin(Stdio::null()).stdout(Stdio::piped()).stderr(Stdio::piped());
+        command
+    }
+
+    fn interrupt(&self) {
+        let sent = Command::new("kill").args(["-INT", &self.child.id().to_string()]).status();
+        assert!(sent.expect("kill runs").success());
+    }
+
+    /// The exit status, and the rest of the log.
+    fn await_end(mut self) -> (Option<i32>, String) {
+        let end = Instant::now() + Duration::from_secs(10);
+        while self.child.try_wait().expect("a child").is_none() {
+            assert!(Instant::now() < end, "the relay goes on");
+            thread::sleep(Duration::from_millis(10));
+        }
+        let mut rest = String::new();
+        self.log.read_to_string(&mut rest).expect("a log");
+        (self.child.wait().expect("a child").code(), rest)
+    }
+}
+
+impl Drop for Relay {
+    fn drop(&mut self) {
+        let _ = self.child.kill();
+        let _ = self.child.wait();
+    }
+}
+
+#[test]
+fn a_file_goes_through_the_relay_and_the_interrupt_ends_it() {
+    let relay = Relay::start();
+    let folder = folder("through_the_relay");
+    let (original, copy) = (folder.join("original"), folder.join("copy"));
+    let contents: Vec<u8> = (0..100_000_u64).map(|place| (place * place / 7) as u8).collect();
+    fs::write(&original, &contents).expect("a file");
+
+    let mut receiver = relay.peer(&["receive", copy.to_str().expect("a path")]).spawn().expect("the program runs");
+    let mut id = String::new();
+    BufReader::new(receiver.stdout.take().expect("its output")).read_line(&mut id).expect("an id");
+    let sender = relay.peer(&["send", id.trim(), original.to_str().expect("a path")]).output().expect("a run");
+    assert_eq!(sender.status.code(), Some(0), "{}", stderr(&sender));
+    let received = receiver.wait_with_output().expect("a run");
+    assert_eq!(received.status.code(), Some(0), "{}", stderr(&received));
+    assert!(fs::read(&copy).expect("the copy") == contents, "the copy differs");
+
+    let wrong = relay.peer(&["send", "67108863", original.to_str().expect("a path")]).output().expect("a run");
+    assert_eq!(wrong.status.code(), Some(1), "an id that nobody has: {}", stderr(&wrong));
+    relay.interrupt();
+    let (status, log) = relay.await_end();
+    assert_eq!(status, Some(0));
+    assert!(log.contains("partner 3: ") && log.contains("calls done"), "{log}");
+}
+
+#[test]
+fn the_interrupt_ends_a_relay_with_connections() {
+    let relay = Relay::start();
+    let port: u16 = relay.base_port.parse().expect("a port");
+    let idle: Vec<_> = (0..3).map(|partner| std::net::TcpStream::connect(("127.0.0.1", port + partner))).collect();
+    relay.interrupt();
+    assert_eq!(relay.await_end().0, Some(0));
+    assert!(idle.into_iter().all(|socket| socket.is_ok()));
+}
+
+#[test]
+fn the_demonstration_shows_that_the_flood_does_no_harm() {
+    let start = Instant::now();
+    let output = run(&["demo"]);
+    assert_eq!(output.status.code(), Some(0), "{}", stderr(&output));
+    assert!(start.elapsed() < Duration::from_secs(30));
+    assert!(stdout(&output).contains("The file arrived unchanged both times"), "{}", stdout(&output));
+}

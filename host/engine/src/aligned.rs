@@ -1,0 +1,71 @@
+//! A buffer that suits the engine's copy of long data.
+
+use std::ops::{Deref, DerefMut};
+
+/// What the engine's copy stores at a time. Stores that cross these places make a long copy slower by a third.
+const STEP: usize = 16;
+
+/// A buffer to lend for what is relayed: its second byte, where a message's data begins, is at a multiple of the step.
+#[derive(Debug)]
+pub struct RelayBuffer {
+    memory: Box<[u8]>,
+    start: usize,
+    length: usize,
+}
+
+impl RelayBuffer {
+    pub fn new(length: usize) -> Self {
+        let memory = vec![0; length + STEP].into_boxed_slice();
+        // The place is a hint: any other serves too, more slowly.
+        let start = (memory.as_ptr().align_offset(STEP).min(STEP) + STEP - 1) % STEP;
+        Self { memory, start, length }
+    }
+}
+
+impl Deref for RelayBuffer {
+    type Target = [u8];
+
+    fn deref(&self) -> &[u8] {
+        &self.memory[self.start..][..self.length]
+    }
+}
+
+impl DerefMut for RelayBuffer {
+    fn deref_mut(&mut self) -> &mut [u8] {
+        &mut self.memory[self.start..][..self.length]
+    }
+}
+
+impl Clone for RelayBuffer {
+    fn clone(&self) -> Self {
+        let mut copy = Self::new(self.length);
+        copy.copy_from_slice(self);
+        copy
+    }
+}
+
+impl PartialEq for RelayBuffer {
+    fn eq(&self, other: &Self) -> bool {
+        **self == **other
+    }
+}
+
+impl Eq for RelayBuffer {}
+
+#[cfg(test)]
+mod tests {
+    use super::RelayBuffer;
+
+    #[test]
+    fn the_second_byte_is_aligned_and_a_copy_holds_the_same() {
+        for length in [2, 64, 65_534] {
+            let mut buffer = RelayBuffer::new(length);
+            assert_eq!(buffer.len(), length);
+            assert_eq!(buffer[1..].as_ptr() as usize % 16, 0);
+            buffer[length - 1] = 7;
+            let copy = buffer.clone();
+            assert_eq!(copy, buffer);
+            assert_eq!(copy[1..].as_ptr() as usize % 16, 0);
+        }
+    }
+}

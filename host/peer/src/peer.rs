@@ -1,0 +1,118 @@
+//! A peer: its connection to the relay, and the version handshake.
+
+use std::io;
+use std::net::{TcpStream, ToSocketAddrs};
+use std::time::{Duration, Instant};
+
+use codec::Message;
+
+use crate::connection::{split, Closer, Incoming, Outgoing};
+use crate::lease::Lease;
+use crate::Error;
+
+/// How long a connection may take that nothing answers.
+const CONNECT_WAIT: Duration = Duration::from_secs(10);
+/// How long the relay may take to answer. A used-up allowance delays it by seconds.
+pub(crate) const ANSWER_WAIT: Duration = Duration::from_secs(30);
+
+/// A peer whose version handshake is done.
+pub struct Peer {
+    pub(crate) incoming: Incoming,
+    pub(crate) outgoing: Outgoing,
+    pub(crate) lease: Option<Lease>,
+}
+
+impl Peer {
+    /// Connects to a relay's port, which says the partner.
+    pub fn connect(address: impl ToSocketAddrs) -> Result<Self, Error> {
+        let stream = connect(address).map_err(Error::Unreachable)?;
+        // Answers and the end of a session are small and shouldn't wait for more.
+        stream.set_nodelay(true).map_err(Error::Connection)?;
+        let (incoming, outgoing) = split(stream);
+        let mut peer = Self { incoming, outgoing, lease: None };
+        peer.shake_hands()?;
+        Ok(peer)
+    }
+
+    fn shake_hands(&mut self) -> Result<(), Error> {
+        let version = match self.receive_by(Instant::now() + ANSWER_WAIT) {
+            Ok(Some(Message::ProtocolVersion { major, minor })) => (major, minor),
+            Ok(Some(_)) => return Err(Error::NoVersion),
+            Ok(None) => return Err(Error::NoAnswer),
+            Err(Error::Closed) => return Err(Error::ClosedBeforeVersion),
+            Err(Error::Connection(error)) if error.kind() == io::ErrorKind::ConnectionReset => {
+                return Err(Error::ClosedBeforeVersion)
+            }
+            Err(error) => return Err(error),
+        };
+        let known = version == (1, 0);
+        self.send(&Message::VersionAnswer { ok: known.into() })?;
+        let (major, minor) = version;
+        known.then_some(()).ok_or(Error::UnknownVersion { major, minor })
+    }
+
+    pub fn send(&mut self, message: &Message) -> Result<(), Error> {
+        self.outgoing.send(message)
+    }
+
+    /// The next message. A Keepalive has been answered when it is handed out.
+    pub fn receive(&mut self) -> Result<Message<'_>, Error> {
+        // Without a deadline there is always a message or an error.
+        self.receive_until(None)?.ok_or(Error::NoAnswer)
+    }
+
+    /// Likewise, or None if the deadline passes first. No byte is lost then.
+    pub fn receive_by(&mut self, deadline: Instant) -> Result<Option<Message<'_>>, Error> {
+        self.receive_until(Some(deadline))
+    }
+
+    pub(crate) fn receive_until(&mut self, deadline: Option<Instant>) -> Result<Option<Message<'_>>, Error> {
+        let message = self.incoming.receive(deadline)?;
+        if message == Some(Message::Keepalive) {
+            self.outgoing.send(&Message::Keepalive)?;
+        }
+        Ok(message)
+    }
+
+    /// The relay's answer to a request: the first message that `pick` knows. Others are ignored.
+    pub(crate) fn answer<T>(&mut self, pick: impl Fn(Message) -> Option<T>) -> Result<T, Error> {
+        let deadline = Instant::now() + ANSWER_WAIT;
+        loop {
+            let message = self.receive_by(deadline)?.ok_or(Error::NoAnswer)?;
+            if let Some(answer) = pick(message) {
+                return Ok(answer);
+            }
+        }
+    }
+
+    /// The connection itself, for bytes that are frames already. None that has come may be unread.
+    pub fn stream(&self) -> &TcpStream {
+        self.outgoing.stream()
+    }
+
+    /// Closes the connection from another thread.
+    pub fn closer(&self) -> Closer {
+        self.incoming.closer()
+    }
+
+    /// Ends the connection in order: the relay has handed on all that was sent when it closes its side.
+    pub fn finish(mut self) -> Result<(), Error> {
+        self.outgoing.end()?;
+        match self.answer(|_| None::<()>) {
+            Err(Error::Closed) | Ok(()) => Ok(()),
+            Err(error) => Err(error),
+        }
+    }
+}
+
+/// The first of the addresses that takes a connection.
+fn connect(address: impl ToSocketAddrs) -> io::Result<TcpStream> {
+    let mut failure = io::ErrorKind::NotFound.into();
+    for address in address.to_socket_addrs()? {
+        match TcpStream::connect_timeout(&address, CONNECT_WAIT) {
+            Ok(stream) => return Ok(stream),
+            Err(error) => failure = error,
+        }
+    }
+    Err(failure)
+}

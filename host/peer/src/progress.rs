@@ -1,0 +1,130 @@
+//! How far a transfer is, as a line of text.
+
+use std::collections::VecDeque;
+use std::io::Write;
+use std::time::{Duration, Instant};
+
+/// How often the line is redrawn on a terminal.
+const REDRAW: Duration = Duration::from_millis(250);
+/// How often a line is written elsewhere.
+const REPEAT: Duration = Duration::from_secs(5);
+/// The rate is that of the last seconds, since a relay lets a burst through first.
+const WINDOW: Duration = Duration::from_secs(5);
+
+/// The line: bytes, percent, rate and time left, as far as they are known.
+pub fn text(done: u64, total: u64, rate: Option<f64>) -> String {
+    let percent = (u128::from(done) * 100).checked_div(total.into()).unwrap_or(100);
+    let mut text = format!("{} of {} bytes, {percent} %", grouped(done), grouped(total));
+    let Some(rate) = rate.filter(|rate| *rate > 0.0) else { return text };
+    text += &format!(", {}", rate_text(rate));
+    if done < total {
+        text += &format!(", {} left", clock((total - done) as f64 / rate));
+    }
+    text
+}
+
+/// A number with a comma after each three digits, counted from the right.
+pub fn grouped(number: u64) -> String {
+    let digits = number.to_string();
+    let head = digits.len() % 3;
+    let (first, rest) = digits.split_at(head);
+    let mut groups: Vec<&str> = rest.as_bytes().chunks(3).filter_map(|group| std::str::from_utf8(group).ok()).collect();
+    if head > 0 {
+        groups.insert(0, first);
+    }
+    groups.join(",")
+}
+
+fn rate_text(rate: f64) -> String {
+    match rate {
+        _ if rate < 1e3 => format!("{rate:.0} B/s"),
+        _ if rate < 1e6 => format!("{:.1} kB/s", rate / 1e3),
+        _ => format!("{:.1} MB/s", rate / 1e6),
+    }
+}
+
+/// Minutes and seconds, with hours if there are any. A second begun counts.
+fn clock(seconds: f64) -> String {
+    // The cast gives the highest number where the time is too long for one.
+    let seconds = seconds.ceil() as u64;
+    let (hours, minutes, seconds) = (seconds / 3600, seconds / 60 % 60, seconds % 60);
+    match hours {
+        0 => format!("{minutes}:{seconds:02}"),
+        _ => format!("{hours}:{minutes:02}:{seconds:02}"),
+    }
+}
+
+/// Shows the line: redrawn in place on a terminal, else a new one now and then.
+pub struct Meter<W: Write> {
+    to: W,
+    terminal: bool,
+    start: Instant,
+    shown: Duration,
+    /// The length of the line on the terminal, which the next one has to cover.
+    width: usize,
+    /// Moments of the last seconds and the bytes done by then.
+    samples: VecDeque<(Duration, u64)>,
+    last: Option<(u64, u64)>,
+}
+
+impl<W: Write> Meter<W> {
+    pub fn new(to: W, terminal: bool) -> Self {
+        let samples = VecDeque::from([(Duration::ZERO, 0)]);
+        Self { to, terminal, start: Instant::now(), shown: Duration::ZERO, width: 0, samples, last: None }
+    }
+
+    pub fn update(&mut self, done: u64, total: u64) {
+        self.update_at(self.start.elapsed(), done, total);
+    }
+
+    /// Likewise, with the time since the start.
+    pub fn update_at(&mut self, now: Duration, done: u64, total: u64) {
+        self.last = Some((done, total));
+        let interval = if self.terminal { REDRAW } else { REPEAT };
+        if now.saturating_sub(self.shown) < interval {
+            return;
+        }
+        self.shown = now;
+        let rate = self.rate(now, done);
+        self.show(&text(done, total, rate));
+    }
+
+    /// Shows where the transfer ended, with the rate over all of it, and leaves the line.
+    pub fn end(&mut self) {
+        self.end_at(self.start.elapsed());
+    }
+
+    /// Likewise, with the time since the start.
+    pub fn end_at(&mut self, now: Duration) {
+        let Some((done, total)) = self.last.take() else { return };
+        self.show(&text(done, total, rate(now, done)));
+        if self.terminal {
+            let _ = writeln!(self.to);
+        }
+    }
+
+    /// The rate since the oldest sample of the window.
+    fn rate(&mut self, now: Duration, done: u64) -> Option<f64> {
+        while self.samples.len() > 1 && self.samples.front().is_some_and(|sample| now.saturating_sub(sample.0) > WINDOW)
+        {
+            self.samples.pop_front();
+        }
+        let (moment, before) = self.samples.front().copied().unwrap_or_default();
+        self.samples.push_back((now, done));
+        rate(now.saturating_sub(moment), done.saturating_sub(before))
+    }
+
+    /// A line that can't be shown is no reason to end a transfer.
+    fn show(&mut self, line: &str) {
+        let _ = match self.terminal {
+            true => write!(self.to, "\r{line:width$}", width = self.width),
+            false => writeln!(self.to, "{line}"),
+        };
+        let _ = self.to.flush();
+        self.width = line.len();
+    }
+}
+
+fn rate(elapsed: Duration, bytes: u64) -> Option<f64> {
+    (!elapsed.is_zero()).then(|| bytes as f64 / elapsed.as_secs_f64())
+}

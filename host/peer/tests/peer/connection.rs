@@ -1,0 +1,195 @@
+//! Connecting, leasing and establishing, with a relay that does as it should and one that doesn't.
+
+use std::net::TcpListener;
+use std::time::{Duration, Instant, SystemTime, UNIX_EPOCH};
+
+use codec::Message;
+use peer::{extension_wait, Error, Peer};
+
+use crate::support::{assert_words, scripted, Connection, COOKIE, ID, LATER, SESSION, VERSION};
+
+/// The error of connecting to a relay that does this with the connection.
+#[track_caller]
+fn connect_error(script: impl FnOnce(Connection) + Send + 'static) -> Error {
+    let (address, relay) = scripted(script);
+    let error = Peer::connect(address).err().expect("no handshake");
+    relay.join().expect("the relay");
+    error
+}
+
+/// What leasing gives at a relay that does this after the handshake.
+fn lease(script: impl FnOnce(Connection) + Send + 'static) -> Result<u32, Error> {
+    let (address, relay) = scripted(|mut connection| {
+        connection.shake_hands();
+        connection.expect(Message::LeaseRequest);
+        script(connection);
+    });
+    let outcome = Peer::connect(address).expect("a handshake").lease();
+    relay.join().expect("the relay");
+    outcome
+}
+
+#[test]
+fn nothing_listens() {
+    let address = TcpListener::bind("127.0.0.1:0").and_then(|listener| listener.local_addr()).expect("a free port");
+    assert_words(Peer::connect(address).err().expect("no connection"), &["nothing listens"]);
+}
+
+#[test]
+fn closed_before_the_version() {
+    assert_words(connect_error(drop), &["before its version message", "all eight connections", "allowance"]);
+}
+
+#[test]
+fn an_unknown_version_is_answered_with_no() {
+    let error = connect_error(|mut connection| {
+        connection.send(Message::ProtocolVersion { major: 1, minor: 1 });
+        connection.expect(Message::VersionAnswer { ok: 0 });
+        assert_eq!(connection.next(), None);
+    });
+    assert_words(error, &["version 1.1"]);
+}
+
+#[test]
+fn another_first_message() {
+    assert_words(
+        connect_error(|mut connection| connection.send(Message::SessionEndNotification)),
+        &["perhaps it is no relay"],
+    );
+}
+
+#[test]
+fn malformed_bytes() {
+    assert_words(connect_error(|mut connection| connection.send_raw(b"HTTP/1.1")), &["malformed", "type 84"]);
+    assert_words(connect_error(|mut connection| connection.send_raw(&[0, 0])), &["malformed", "length 0"]);
+    assert_words(connect_error(|mut connection| connection.send_raw(&[0, 9, 1])), &["malformed", "within a frame"]);
+    assert_words(connect_error(|mut connection| connection.send_raw(&[0, 1, 1])), &["malformed", "empty"]);
+    assert_words(
+        connect_error(|mut connection| connection.send_raw(&[0, 3, 1, 3, 2])),
+        &["malformed", "type 3, 2 bytes"],
+    );
+}
+
+#[test]
+fn a_lease_and_a_refused_one() {
+    let granted = Message::LeaseGranted { id: ID, cookie: &COOKIE, expiration: LATER };
+    assert_eq!(lease(move |mut connection| connection.send(granted)).expect("a lease"), ID);
+    let refused = lease(|mut connection| connection.send(Message::LeaseRefused));
+    assert_words(refused.expect_err("no lease"), &["granted no id", "sixteen leases"]);
+    assert_words(lease(drop).expect_err("no lease"), &["closed the connection"]);
+}
+
+#[test]
+fn an_unexpected_message_is_ignored_and_a_keepalive_answered() {
+    let id = lease(|mut connection| {
+        connection.send(Message::DataReceive { data: b"stray" });
+        connection.send(VERSION);
+        connection.send(Message::Keepalive);
+        connection.expect(Message::Keepalive);
+        connection.send(Message::LeaseGranted { id: 5, cookie: &COOKIE, expiration: LATER });
+    });
+    assert_eq!(id.expect("a lease"), 5);
+}
+
+#[test]
+fn each_establish_status_in_words() {
+    let words = ["no id 12345678", "offline", "another session", "a session already", "this peer's own"];
+    for (status, words) in (1..).zip(words) {
+        let (address, relay) = scripted(move |mut connection| {
+            connection.shake_hands();
+            connection.expect(Message::EstablishRequest { id: ID });
+            // Another id's answer isn't this one's.
+            connection.send(Message::Established { id: ID + 1, session: SESSION });
+            connection.send(Message::EstablishRefused { id: ID, status });
+        });
+        let error = Peer::connect(address).expect("a handshake").establish(ID).expect_err("no session");
+        assert_words(error, &[words]);
+        relay.join().expect("the relay");
+    }
+}
+
+#[test]
+fn a_deadline_loses_no_byte() {
+    let (address, relay) = scripted(|mut connection| {
+        connection.shake_hands();
+        connection.send_raw(&[0, 2]);
+        connection.expect(Message::SessionEnd);
+        connection.send_raw(&[1, 10]);
+    });
+    let mut peer = Peer::connect(address).expect("a handshake");
+    assert_eq!(peer.receive_by(Instant::now() + Duration::from_millis(50)).expect("a connection"), None);
+    peer.end_session().expect("a connection");
+    assert_eq!(peer.receive().expect("a message"), Message::SessionEndNotification);
+    peer.finish().expect("the end");
+    relay.join().expect("the relay");
+}
+
+#[test]
+fn an_extension_is_due_at_half_of_what_is_left() {
+    let seconds = |expiration, now| extension_wait(expiration, now).as_secs();
+    assert_eq!(seconds(3_700, 100), 1_800);
+    assert_eq!(seconds(3_700, 2_700), 500);
+    // Clocks that differ: not too late, and no flood.
+    assert_eq!(seconds(9_999, 100), 1_800);
+    assert_eq!(seconds(3_700, 5_000), 1);
+}
+
+#[test]
+fn a_lease_is_extended_and_else_another_id_leased() {
+    let soon = SystemTime::now().duration_since(UNIX_EPOCH).expect("a time").as_secs() + 2;
+    let (address, relay) = scripted(move |mut connection| {
+        connection.shake_hands();
+        connection.grant_lease(soon);
+        connection.expect(Message::ExtensionRequest { cookie: &COOKIE });
+        let asked = Instant::now();
+        connection.send(Message::ExtensionGranted { expiration: soon + 4 });
+        connection.expect(Message::ExtensionRequest { cookie: &COOKIE });
+        // Half of what the extension left, and not of the first lease.
+        assert!(asked.elapsed() > Duration::from_millis(1_500));
+        connection.send(Message::ExtensionRefused);
+        connection.expect(Message::LeaseRequest);
+        connection.send(Message::LeaseGranted { id: 77, cookie: &[8; 24], expiration: LATER });
+        connection.send(Message::EstablishNotification { session: SESSION });
+    });
+    let mut peer = Peer::connect(address).expect("a handshake");
+    assert_eq!(peer.lease().expect("a lease"), ID);
+    let mut ids = Vec::new();
+    peer.await_session(|id| ids.push(id)).expect("a session");
+    assert_eq!(ids, [77]);
+    relay.join().expect("the relay");
+}
+
+#[test]
+fn an_extension_and_another_id_refused() {
+    let (address, relay) = scripted(|mut connection| {
+        connection.shake_hands();
+        connection.grant_lease(0);
+        connection.expect(Message::ExtensionRequest { cookie: &COOKIE });
+        connection.send(Message::ExtensionRefused);
+        connection.expect(Message::LeaseRequest);
+        connection.send(Message::LeaseRefused);
+    });
+    let mut peer = Peer::connect(address).expect("a handshake");
+    peer.lease().expect("a lease");
+    assert_words(peer.await_session(|_| panic!("no new id")).expect_err("no session"), &["granted no id"]);
+    relay.join().expect("the relay");
+}
+
+#[test]
+fn a_session_that_comes_before_the_extension() {
+    let (address, relay) = scripted(|mut connection| {
+        connection.shake_hands();
+        connection.grant_lease(0);
+        connection.expect(Message::ExtensionRequest { cookie: &COOKIE });
+        connection.send(Message::EstablishNotification { session: SESSION });
+        connection.send(Message::ExtensionRefused);
+        connection.send(Message::DataReceive { data: &[0; 8] });
+        connection.drain();
+    });
+    let mut peer = Peer::connect(address).expect("a handshake");
+    peer.lease().expect("a lease");
+    peer.await_session(|_| panic!("no new id")).expect("a session");
+    assert_eq!(peer::receive_contents(&mut peer, Vec::new(), |_, _| ()).expect("an empty file"), 0);
+    drop(peer);
+    relay.join().expect("the relay");
+}

@@ -1,0 +1,7 @@
+//! The peer against a relay of the tests' own, its progress line and its files.
+
+mod connection;
+mod part_file;
+mod progress;
+mod support;
+mod transfer;

@@ -1,0 +1,143 @@
+//! A relay for the tests: a thread that speaks frames, by a script or as a small forwarding loop.
+
+use std::io::{Read, Write};
+use std::net::{Shutdown, SocketAddr, TcpListener, TcpStream};
+use std::thread::{self, JoinHandle};
+use std::time::Duration;
+
+use codec::{Message, Session};
+
+/// No read or write of a test waits longer.
+const LIMIT: Duration = Duration::from_secs(10);
+pub const VERSION: Message = Message::ProtocolVersion { major: 1, minor: 0 };
+pub const ID: u32 = 12_345_678;
+pub const COOKIE: [u8; 24] = [7; 24];
+const FIELD: [u8; 16] = [9; 16];
+pub const SESSION: Session = Session { id: &FIELD, peer: &FIELD, key: &FIELD };
+/// An expiration that isn't near.
+pub const LATER: u64 = 1 << 39;
+
+/// A connection as the relay has it.
+pub struct Connection {
+    stream: TcpStream,
+    reader: frames::Reader,
+}
+
+impl Connection {
+    fn accept(listener: &TcpListener) -> Self {
+        let (stream, _) = listener.accept().expect("a connection");
+        stream.set_read_timeout(Some(LIMIT)).expect("a read limit");
+        stream.set_write_timeout(Some(LIMIT)).expect("a write limit");
+        Self { stream, reader: frames::Reader::default() }
+    }
+
+    pub fn send(&mut self, message: Message) {
+        let mut frame = Vec::new();
+        frames::append(&codec::encode(&message).expect("a message"), &mut frame).expect("a frame");
+        self.send_raw(&frame);
+    }
+
+    pub fn send_raw(&mut self, bytes: &[u8]) {
+        // A peer may be gone already, which its own outcome shows.
+        let _ = self.stream.write_all(bytes);
+    }
+
+    /// The next message, None at the end. The test fails if neither comes in time.
+    pub fn next(&mut self) -> Option<Message<'_>> {
+        match self.reader.next(&mut self.stream) {
+            Ok(bytes) => Some(codec::decode(bytes?).expect("a message")),
+            Err(error) => {
+                assert!(!error.is_timeout(), "the peer neither sent nor ended");
+                None
+            }
+        }
+    }
+
+    #[track_caller]
+    pub fn expect(&mut self, message: Message) {
+        assert_eq!(self.next(), Some(message));
+    }
+
+    pub fn shake_hands(&mut self) {
+        self.send(VERSION);
+        self.expect(Message::VersionAnswer { ok: 1 });
+    }
+
+    pub fn grant_lease(&mut self, expiration: u64) {
+        self.expect(Message::LeaseRequest);
+        self.send(Message::LeaseGranted { id: ID, cookie: &COOKIE, expiration });
+    }
+
+    pub fn grant_session(&mut self) {
+        self.expect(Message::EstablishRequest { id: ID });
+        self.send(Message::Established { id: ID, session: SESSION });
+    }
+
+    /// Reads whatever comes to the end of the stream.
+    pub fn drain(&mut self) {
+        let _ = self.stream.read_to_end(&mut Vec::new());
+    }
+
+    fn second_handle(&self) -> TcpStream {
+        self.stream.try_clone().expect("a second handle")
+    }
+}
+
+/// Runs the script with the first connection.
+pub fn scripted(script: impl FnOnce(Connection) + Send + 'static) -> (SocketAddr, JoinHandle<()>) {
+    let (listener, address) = listen();
+    (address, thread::spawn(move || script(Connection::accept(&listener))))
+}
+
+/// Leases an id to the first connection, establishes a session between the second and it, and hands on what they send
+/// until both are gone. Gives the types of messages that the second sent.
+pub fn forwarding() -> (SocketAddr, JoinHandle<Vec<u8>>) {
+    let (listener, address) = listen();
+    let relay = thread::spawn(move || {
+        let mut holder = Connection::accept(&listener);
+        holder.shake_hands();
+        holder.grant_lease(LATER);
+        let mut caller = Connection::accept(&listener);
+        caller.shake_hands();
+        caller.grant_session();
+        holder.send(Message::EstablishNotification { session: SESSION });
+        let (to_holder, to_caller) = (holder.second_handle(), caller.second_handle());
+        let back = thread::spawn(move || forward(holder, to_caller));
+        let kinds = forward(caller, to_holder);
+        back.join().expect("the way back");
+        kinds
+    });
+    (address, relay)
+}
+
+/// Hands on data and the session's end, which the end of the connection is too. Gives the types of the messages.
+fn forward(mut from: Connection, to: TcpStream) -> Vec<u8> {
+    let mut to = Connection { stream: to, reader: frames::Reader::default() };
+    let mut kinds = Vec::new();
+    while let Some(message) = from.next() {
+        kinds.extend(codec::encode(&message).and_then(|bytes| bytes.first().copied()));
+        match message {
+            Message::DataSend { data } => to.send(Message::DataReceive { data }),
+            Message::SessionEnd => to.send(Message::SessionEndNotification),
+            _ => {}
+        }
+    }
+    to.send(Message::SessionEndNotification);
+    let _ = from.stream.shutdown(Shutdown::Write);
+    kinds
+}
+
+fn listen() -> (TcpListener, SocketAddr) {
+    let listener = TcpListener::bind("127.0.0.1:0").expect("a port");
+    let address = listener.local_addr().expect("its address");
+    (listener, address)
+}
+
+/// Fails unless all of these words are in the error's text.
+#[track_caller]
+pub fn assert_words(error: peer::Error, words: &[&str]) {
+    let text = error.to_string();
+    for word in words {
+        assert!(text.contains(word), "'{word}' isn't in '{text}'");
+    }
+}

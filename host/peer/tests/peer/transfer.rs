@@ -1,0 +1,293 @@
+//! Files through a relay: whole ones, and sides that vanish or break the format.
+
+use std::io::{self, Read, Write};
+use std::net::SocketAddr;
+use std::sync::mpsc::{self, Receiver, RecvTimeoutError};
+use std::thread;
+use std::time::Duration;
+
+use codec::{Message, DATA_LIMIT};
+use peer::{receive_file, send_contents, send_file, Error, Peer, MESSAGE_SIZE};
+
+use crate::support::{assert_words, forwarding, scripted, Connection, ID, LATER, SESSION};
+
+/// Bytes that don't repeat soon.
+fn contents(length: usize) -> Vec<u8> {
+    (0..length as u32).map(|at| (at.wrapping_mul(2_654_435_761) >> 24) as u8).collect()
+}
+
+/// A peer that has leased the id.
+fn holder(address: SocketAddr) -> Peer {
+    let mut peer = Peer::connect(address).expect("a handshake");
+    assert_eq!(peer.lease().expect("a lease"), ID);
+    peer
+}
+
+/// Sends a file of this length to a second peer in messages of this size.
+#[track_caller]
+fn check_transfer(length: usize, message_size: usize) {
+    let file = contents(length);
+    let (address, relay) = forwarding();
+    let mut receiver = holder(address);
+    let receiving = thread::spawn(move || {
+        let (mut received, mut told) = (Vec::new(), Vec::new());
+        let count = receive_file(&mut receiver, &mut received, |done, total| told.push((done, total)));
+        (count.expect("a file"), received, told)
+    });
+    let mut sender = Peer::connect(address).expect("a handshake");
+    sender.establish(ID).expect("a session");
+    let mut arrived = Vec::new();
+    let progress = |done, total| arrived.push((done, total));
+    send_contents(&mut sender, file.as_slice(), length as u64, message_size, progress).expect("sent");
+    sender.finish().expect("the end");
+    let (count, received, told) = receiving.join().expect("the receiver");
+    assert!(received == file, "the file has changed");
+    assert_eq!(count, length as u64);
+    assert_eq!((arrived.first(), arrived.last()), (Some(&(0, count)), Some(&(count, count))));
+    assert!(arrived.iter().skip(1).all(|counted| told.contains(counted)), "counted before it came");
+    assert_eq!((told.first(), told.last()), (Some(&(0, count)), Some(&(count, count))));
+    let kinds = relay.join().expect("the relay");
+    let data_messages = 1 + length.div_ceil(message_size);
+    assert_eq!(kinds, [vec![11; data_messages], vec![9]].concat());
+}
+
+#[test]
+fn a_whole_file() {
+    check_transfer(3_000_000, MESSAGE_SIZE);
+    check_transfer(3 * MESSAGE_SIZE, MESSAGE_SIZE);
+    check_transfer(2 * DATA_LIMIT + 1, DATA_LIMIT);
+    check_transfer(100, 1);
+}
+
+#[test]
+fn an_empty_file() {
+    check_transfer(0, MESSAGE_SIZE);
+}
+
+/// What receiving gives if this comes in the session, and what was written.
+fn receive_at(script: impl FnOnce(&mut Connection) + Send + 'static) -> (Result<u64, Error>, Vec<u8>) {
+    let (address, relay) = scripted(|mut connection| {
+        connection.shake_hands();
+        connection.grant_lease(LATER);
+        connection.send(Message::EstablishNotification { session: SESSION });
+        script(&mut connection);
+    });
+    let mut written = Vec::new();
+    let outcome = receive_file(&mut holder(address), &mut written, |_, _| ());
+    relay.join().expect("the relay");
+    (outcome, written)
+}
+
+fn announce(connection: &mut Connection, length: u64) {
+    connection.send(Message::DataReceive { data: &length.to_be_bytes() });
+}
+
+#[test]
+fn the_sender_vanishes() {
+    let (outcome, written) = receive_at(|connection| {
+        announce(connection, 5_000);
+        connection.send(Message::DataReceive { data: &[1; 1_234] });
+        connection.send(Message::SessionEndNotification);
+        connection.drain();
+    });
+    assert_words(outcome.expect_err("no file"), &["ended the session or vanished", "1,234 of 5,000 bytes"]);
+    assert_eq!(written.len(), 1_234);
+    let (outcome, _) = receive_at(|connection| connection.send(Message::SessionEndNotification));
+    assert_words(outcome.expect_err("no file"), &["ended the session or vanished", "no byte had come"]);
+    let (outcome, _) = receive_at(|connection| announce(connection, 1));
+    assert_words(outcome.expect_err("no file"), &["the relay closed the connection", "0 of 1 bytes"]);
+}
+
+#[test]
+fn more_than_announced() {
+    let (outcome, written) = receive_at(|connection| {
+        announce(connection, 3);
+        connection.send(Message::DataReceive { data: b"four" });
+        connection.drain();
+    });
+    assert_words(outcome.expect_err("no file"), &["more bytes than it had announced", "0 of 3 bytes"]);
+    assert_eq!(written, b"");
+    let (outcome, _) = receive_at(|connection| {
+        announce(connection, 3);
+        connection.send(Message::DataReceive { data: b"one" });
+        connection.expect(Message::DataSend { data: &[0, 0, 0, 0, 0, 0, 0, 3] });
+        connection.send(Message::DataReceive { data: b"more" });
+    });
+    assert_words(outcome.expect_err("too much"), &["more bytes than it had announced"]);
+}
+
+#[test]
+fn no_length_first() {
+    let (outcome, _) = receive_at(|connection| connection.send(Message::DataReceive { data: b"a text" }));
+    assert_words(outcome.expect_err("no file"), &["isn't the length of a file"]);
+}
+
+#[test]
+fn malformed_bytes_in_a_session() {
+    let (outcome, _) = receive_at(|connection| {
+        announce(connection, 3);
+        connection.send_raw(&[0, 3, 1, 13, 13]);
+        connection.drain();
+    });
+    assert_words(outcome.expect_err("no file"), &["malformed", "type 13, 2 bytes", "0 of 3 bytes"]);
+}
+
+#[test]
+fn after_the_answer_the_relay_may_close() {
+    let (outcome, written) = receive_at(|connection| {
+        announce(connection, 3);
+        connection.send(Message::DataReceive { data: b"one" });
+        connection.expect(Message::DataSend { data: &[0, 0, 0, 0, 0, 0, 0, 3] });
+    });
+    assert_eq!((outcome.expect("a file"), written.as_slice()), (3, &b"one"[..]));
+}
+
+/// A disk without room.
+struct Full;
+
+impl Write for Full {
+    fn write(&mut self, _: &[u8]) -> io::Result<usize> {
+        Err(io::ErrorKind::StorageFull.into())
+    }
+
+    fn flush(&mut self) -> io::Result<()> {
+        Ok(())
+    }
+}
+
+#[test]
+fn a_file_that_cannot_be_written_ends_both_sides() {
+    let (address, relay) = forwarding();
+    let mut receiver = holder(address);
+    // The peer outlives its error: the connection's end mustn't depend on its drop.
+    let receiving = thread::spawn(move || (receive_file(&mut receiver, Full, |_, _| ()), receiver));
+    let mut sender = Peer::connect(address).expect("a handshake");
+    let file = contents(100);
+    let error = send_file(&mut sender, ID, file.as_slice(), 100, |_, _| ()).expect_err("not sent");
+    assert_words(error, &["ended the session or vanished", "0 of 100 bytes had arrived"]);
+    let (received, _receiver) = receiving.join().expect("the receiver");
+    assert_words(received.expect_err("no file"), &["can't be written", "0 of 100 bytes"]);
+    drop(sender);
+    relay.join().expect("the relay");
+}
+
+/// What sending gives if this happens in the session.
+fn send_at(reader: impl Read, length: u64, script: impl FnOnce(&mut Connection) + Send + 'static) -> Result<(), Error> {
+    let (address, relay) = scripted(|mut connection| {
+        connection.shake_hands();
+        connection.grant_session();
+        script(&mut connection);
+    });
+    let mut peer = Peer::connect(address).expect("a handshake");
+    let outcome = send_file(&mut peer, ID, reader, length, |_, _| ());
+    drop(peer);
+    relay.join().expect("the relay");
+    outcome
+}
+
+#[test]
+fn the_receiver_vanishes_while_a_write_waits() {
+    let (to_relay, reads) = mpsc::channel();
+    let (failed, failing) = mpsc::channel::<()>();
+    let (address, relay) = scripted(move |mut connection| {
+        connection.shake_hands();
+        connection.grant_session();
+        fill(&mut connection, &reads);
+        connection.send(Message::SessionEndNotification);
+        assert_eq!(failing.recv_timeout(Duration::from_secs(5)), Err(RecvTimeoutError::Disconnected));
+    });
+    let mut peer = Peer::connect(address).expect("a handshake");
+    let endless = Noting { reader: io::repeat(1), to_relay };
+    let error = send_file(&mut peer, ID, endless, 1 << 40, |_, _| ()).expect_err("not sent");
+    drop(failed);
+    assert_words(error, &["ended the session or vanished", "of 1,099,511,627,776 bytes"]);
+    relay.join().expect("the relay");
+}
+
+/// Counts what the sender has sent, but reads nothing, until the sender is stuck in a write.
+fn fill(connection: &mut Connection, reads: &Receiver<usize>) {
+    let (mut read, mut counted) = (0, 0);
+    while let Ok(count) = reads.recv_timeout(Duration::from_secs(1)) {
+        read += count;
+        // All that was read has been sent, but for a message or two.
+        let sent = read.saturating_sub(3 * MESSAGE_SIZE);
+        if sent > counted {
+            counted = sent;
+            connection.send(Message::DataReceive { data: &(sent as u64).to_be_bytes() });
+        }
+    }
+}
+
+/// Notes how much is read, which a write that waits holds up.
+struct Noting<R> {
+    reader: R,
+    to_relay: mpsc::Sender<usize>,
+}
+
+impl<R: Read> Read for Noting<R> {
+    fn read(&mut self, to: &mut [u8]) -> io::Result<usize> {
+        let count = self.reader.read(to)?;
+        let _ = self.to_relay.send(count);
+        Ok(count)
+    }
+}
+
+#[test]
+fn the_relay_closes_while_a_file_is_sent() {
+    let error = send_at(&b"abc"[..], 3, |connection| {
+        connection.expect(Message::DataSend { data: &[0, 0, 0, 0, 0, 0, 0, 3] });
+        connection.expect(Message::DataSend { data: b"abc" });
+    });
+    assert_words(error.expect_err("not sent"), &["the relay closed the connection", "0 of 3 bytes had arrived"]);
+}
+
+#[test]
+fn a_wrong_count() {
+    let count = |count: u64| count.to_be_bytes().to_vec();
+    let wrong =
+        [vec![b"yes".to_vec()], vec![vec![]], vec![count(4)], vec![count(2), count(2)], vec![count(2), count(1)]];
+    for answers in wrong {
+        let error = send_at(&b"abc"[..], 3, move |connection| {
+            connection.expect(Message::DataSend { data: &[0, 0, 0, 0, 0, 0, 0, 3] });
+            connection.expect(Message::DataSend { data: b"abc" });
+            answers.iter().for_each(|data| connection.send(Message::DataReceive { data }));
+            connection.drain();
+        });
+        assert_words(error.expect_err("not sent"), &["isn't a count of bytes that it can have"]);
+    }
+}
+
+#[test]
+fn a_keepalive_is_answered_while_a_file_is_sent() {
+    let outcome = send_at(&b"abc"[..], 3, |connection| {
+        connection.expect(Message::DataSend { data: &[0, 0, 0, 0, 0, 0, 0, 3] });
+        connection.expect(Message::DataSend { data: b"abc" });
+        connection.send(Message::Keepalive);
+        connection.expect(Message::Keepalive);
+        connection.send(Message::DataReceive { data: &[0, 0, 0, 0, 0, 0, 0, 3] });
+        connection.expect(Message::SessionEnd);
+    });
+    outcome.expect("sent");
+}
+
+/// Its last bytes are never sent, and here nothing is, so that the receiver can't keep the file.
+#[test]
+fn a_file_of_another_length_than_announced() {
+    for (file, length, words) in [("abc", 4, "shorter now"), ("abc", 2, "longer now"), ("a", 0, "longer now")] {
+        let (heard, kinds) = mpsc::channel();
+        let error = send_at(file.as_bytes(), length, move |connection| {
+            while connection.next().is_some_and(|message| heard.send(format!("{message:?}")).is_ok()) {}
+        });
+        assert_words(error.expect_err("not sent"), &[words]);
+        assert_eq!(kinds.iter().count(), 0);
+    }
+}
+
+#[test]
+fn malformed_bytes_while_a_file_is_sent() {
+    let error = send_at(&b"abc"[..], 3, |connection| {
+        connection.send_raw(&[0, 2, 1, 99]);
+        connection.drain();
+    });
+    assert_words(error.expect_err("not sent"), &["malformed", "type 99, 1 bytes"]);
+}

@@ -1,0 +1,13 @@
+//! What a partner got from the relay.
+
+#[derive(Clone, Copy, Debug, Default, PartialEq, Eq)]
+pub struct Statistics {
+    /// Opens, messages and closes that were accepted.
+    pub done: u64,
+    /// Opens and messages that had to wait for the allowance.
+    pub waited: u64,
+    /// Messages dropped for want of a session.
+    pub dropped: u64,
+    /// Bytes of the accepted messages.
+    pub bytes: u64,
+}

@@ -1,0 +1,123 @@
+//! Waiting for allowance over real sockets: nothing is lost, and no neighbour waits.
+
+use std::time::{Duration, Instant};
+
+use codec::{encode, Message};
+
+use crate::clocks::{Backward, Standing};
+use crate::support::{Relay, Socket, LIMIT};
+
+/// Data that costs a whole second's refill.
+static DATA: [u8; 65_536 - 33] = [7; 65_536 - 33];
+
+/// A session of partner 0 in which the last of four sends waits for the allowance, and the clock stands.
+struct Waiting {
+    clock: Standing,
+    relay: Relay,
+    caller: Socket,
+    holder: Socket,
+}
+
+impl Waiting {
+    fn start() -> Self {
+        let clock = Standing::default();
+        let relay = Relay::with_clock(clock.clone());
+        let (mut caller, mut holder) = (relay.peer(0), relay.peer(0));
+        caller.establish(&mut holder);
+        // Opens, answers, lease and establish have left room for three.
+        for _ in 0..4 {
+            caller.send(Message::DataSend { data: &DATA });
+        }
+        relay.await_line(
+            "partner 0, connection 0: refused with 9, the partner's allowance is used up: the message waits",
+        );
+        Self { clock, relay, caller, holder }
+    }
+
+    /// So many of the sends arrive.
+    fn assert_received(&mut self, count: usize) {
+        for _ in 0..count {
+            assert_eq!(self.holder.receive(), encode(&Message::DataReceive { data: &DATA }));
+        }
+    }
+}
+
+#[test]
+fn messages_wait_for_the_refill_and_arrive_in_order() {
+    let mut waiting = Waiting::start();
+    waiting.caller.send(Message::DataSend { data: b"last" });
+    waiting.assert_received(3);
+    assert!(waiting.relay.peer(1).lease() < 1 << 26, "a neighbour's allowance is its own");
+    assert_eq!(waiting.relay.server.statistics()[0].waited, 1);
+    waiting.clock.advance(1);
+    waiting.assert_received(1);
+    assert_eq!(waiting.holder.receive(), encode(&Message::DataReceive { data: b"last" }));
+}
+
+#[test]
+fn a_large_message_is_not_passed_over_by_small_ones() {
+    let mut waiting = Waiting::start();
+    let mut small = waiting.relay.socket(0);
+    waiting.clock.advance(1);
+    waiting.assert_received(4);
+    small.receive().expect("the version");
+    small.send(Message::VersionAnswer { ok: 1 });
+    // It costs a little more than what is left, which would pay for many small ones.
+    waiting.caller.send(Message::DataSend { data: &DATA });
+    waiting.relay.await_waits(0, 2);
+    let done = waiting.relay.server.statistics()[0].done;
+    for _ in 0..1000 {
+        small.send(Message::Keepalive);
+    }
+    std::thread::sleep(Duration::from_millis(100));
+    assert_eq!(waiting.relay.server.statistics()[0].done, done, "none goes first");
+    waiting.clock.advance(1);
+    waiting.assert_received(1);
+}
+
+#[test]
+fn a_session_can_be_ended_while_its_partner_waits() {
+    let mut waiting = Waiting::start();
+    waiting.holder.send(Message::SessionEnd);
+    assert_eq!(waiting.caller.receive(), encode(&Message::SessionEndNotification));
+    waiting.clock.advance(4);
+    waiting.relay.await_line("connection 0: refused with 8");
+}
+
+#[test]
+fn a_new_connection_waits_for_its_open_to_be_allowed() {
+    let clock = Standing::default();
+    let relay = Relay::with_clock(clock.clone());
+    let mut peer = relay.peer(0);
+    for _ in 0..262_144 / 33 + 1 {
+        peer.send(Message::Keepalive);
+    }
+    relay.await_line("connection 0: refused with 9");
+    let mut late = relay.socket(0);
+    late.stream.set_read_timeout(Some(Duration::from_millis(100))).expect("a timeout");
+    assert!(!late.is_closed(), "it waits");
+    clock.advance(1);
+    late.stream.set_read_timeout(Some(LIMIT)).expect("a timeout");
+    assert_eq!(late.receive(), encode(&Message::ProtocolVersion { major: 1, minor: 0 }));
+}
+
+#[test]
+fn the_server_stops_while_messages_wait() {
+    let relay = Relay::with_clock(Standing::default());
+    let mut peer = relay.peer(0);
+    for _ in 0..9000 {
+        peer.send(Message::Keepalive);
+    }
+    relay.await_line("connection 0: refused with 9");
+    let start = Instant::now();
+    relay.server.stop();
+    assert!(start.elapsed() < Duration::from_secs(5));
+    assert!(peer.is_closed());
+}
+
+#[test]
+fn a_clock_that_goes_back_is_no_reason_to_refuse() {
+    let relay = Relay::with_clock(Backward::from(1000));
+    assert!(relay.peer(0).lease() < 1 << 26);
+    assert!(!relay.has_line("refused"));
+}

@@ -1,0 +1,63 @@
+//! Clocks that a test moves.
+
+use std::sync::atomic::{AtomicU64, Ordering};
+use std::sync::Arc;
+use std::time::Duration;
+
+use server::Clock;
+
+/// How soon a message that waits is offered again.
+const SOON: Duration = Duration::from_millis(2);
+
+/// Stands until it is told to go on.
+#[derive(Clone, Default)]
+pub struct Standing(Arc<AtomicU64>);
+
+impl Standing {
+    pub fn advance(&self, seconds: u64) {
+        self.0.fetch_add(seconds, Ordering::SeqCst);
+    }
+}
+
+impl Clock for Standing {
+    fn now(&self) -> u64 {
+        self.0.load(Ordering::SeqCst)
+    }
+
+    fn until_next(&self) -> Duration {
+        SOON
+    }
+}
+
+/// Goes on so fast that no allowance is ever used up.
+#[derive(Default)]
+pub struct Jumping(AtomicU64);
+
+impl Clock for Jumping {
+    fn now(&self) -> u64 {
+        self.0.fetch_add(4, Ordering::Relaxed)
+    }
+
+    fn until_next(&self) -> Duration {
+        SOON
+    }
+}
+
+/// Goes back by a second with each reading.
+pub struct Backward(AtomicU64);
+
+impl Backward {
+    pub fn from(now: u64) -> Self {
+        Self(now.into())
+    }
+}
+
+impl Clock for Backward {
+    fn now(&self) -> u64 {
+        self.0.fetch_sub(1, Ordering::Relaxed)
+    }
+
+    fn until_next(&self) -> Duration {
+        SOON
+    }
+}

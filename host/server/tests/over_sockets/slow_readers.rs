@@ -1,0 +1,69 @@
+//! A peer that reads nothing: its senders wait, others don't, and the relay's memory stays bounded.
+
+use std::io::Write;
+use std::time::{Duration, Instant};
+
+use codec::{encode, Message};
+
+use crate::clocks::Jumping;
+use crate::support::Relay;
+
+/// The frame of a send of the largest size.
+fn longest_send() -> Vec<u8> {
+    let mut frame = Vec::new();
+    frames::append(&[&[11], &[7; 65_533][..]].concat(), &mut frame).expect("a frame");
+    frame
+}
+
+#[test]
+fn the_sender_to_a_slow_reader_waits_and_nothing_is_lost() {
+    let relay = Relay::with_clock(Jumping::default());
+    let (mut caller, mut holder) = (relay.peer(0), relay.peer(0));
+    caller.establish(&mut holder);
+    let frame = longest_send();
+    caller.stream.set_write_timeout(Some(Duration::from_millis(500))).expect("a timeout");
+    let mut taken = 0;
+    // The kernel's buffers and the queue are full some time: then the relay takes no more.
+    while taken < 1 << 28 {
+        match caller.stream.write(&frame[taken % frame.len()..]) {
+            Ok(count) => taken += count,
+            Err(_) => break,
+        }
+    }
+    assert!(taken < 1 << 28, "the relay took 256 MiB for a peer that reads nothing");
+    // Others of the same partner go on.
+    let start = Instant::now();
+    assert!(relay.peer(0).lease() < 1 << 26);
+    assert!(start.elapsed() < Duration::from_secs(2));
+    for _ in 0..taken / frame.len() {
+        assert_eq!(holder.receive(), encode(&Message::DataReceive { data: &[7; 65_533] }));
+    }
+}
+
+#[test]
+fn a_peer_that_reads_nothing_is_given_up_and_its_sender_goes_on() {
+    let relay = Relay::with_patience(Jumping::default(), Duration::from_secs(1));
+    let (mut caller, mut holder) = (relay.peer(0), relay.peer(0));
+    caller.establish(&mut holder);
+    let frame = longest_send();
+    // More than the kernel and the queue hold, so the relay takes the last of it when the holder is given up.
+    for _ in 0..400 {
+        caller.send_bytes(&frame);
+    }
+    relay.await_line("partner 0, connection 1: given up, the peer has read nothing for 1 s");
+    assert_eq!(caller.receive(), encode(&Message::SessionEndNotification));
+    assert!(caller.lease() < 1 << 26);
+}
+
+#[test]
+fn the_server_stops_though_a_peer_reads_nothing() {
+    let relay = Relay::with_clock(Jumping::default());
+    let (mut caller, mut holder) = (relay.peer(0), relay.peer(0));
+    caller.establish(&mut holder);
+    caller.stream.set_write_timeout(Some(Duration::from_millis(200))).expect("a timeout");
+    let frame = longest_send();
+    while caller.stream.write_all(&frame).is_ok() {}
+    let start = Instant::now();
+    relay.server.stop();
+    assert!(start.elapsed() < Duration::from_secs(8));
+}

@@ -1,0 +1,152 @@
+//! A relay on free ports, whose log is kept, and plain sockets to talk to it.
+
+use std::io::{Read, Write};
+use std::net::{Shutdown, TcpStream};
+use std::sync::{Arc, Mutex};
+use std::thread;
+use std::time::{Duration, Instant};
+
+use codec::{encode, Message};
+use frames::{append, Reader};
+use server::{bind, Clock, Log, Server, Settings, SystemClock};
+
+/// What is awaited for longer than this won't come.
+pub const LIMIT: Duration = Duration::from_secs(10);
+
+pub struct Relay {
+    pub server: Server,
+    lines: Arc<Mutex<Vec<String>>>,
+}
+
+impl Relay {
+    pub fn start() -> Self {
+        Self::with_clock(SystemClock)
+    }
+
+    pub fn with_clock(clock: impl Clock + 'static) -> Self {
+        Self::with_patience(clock, LIMIT)
+    }
+
+    pub fn with_patience(clock: impl Clock + 'static, patience: Duration) -> Self {
+        let lines = Arc::new(Mutex::new(Vec::new()));
+        let log = {
+            let lines = Arc::clone(&lines);
+            Log::new(move |line| lines.lock().expect("no panic in a log").push(line.to_owned()))
+        };
+        let settings = Settings { patience, ..Settings::new(clock, log) };
+        Self { server: Server::start(bind(None).expect("free ports"), settings).expect("a relay"), lines }
+    }
+
+    /// A socket to the partner's port; nothing has been said on it.
+    pub fn socket(&self, partner: usize) -> Socket {
+        let stream = TcpStream::connect(self.server.addresses()[partner]).expect("the relay listens");
+        stream.set_read_timeout(Some(LIMIT)).expect("a timeout");
+        stream.set_write_timeout(Some(LIMIT)).expect("a timeout");
+        Socket { stream, reader: Reader::default() }
+    }
+
+    /// A connection of the partner with its version answered.
+    pub fn peer(&self, partner: usize) -> Socket {
+        let mut socket = self.socket(partner);
+        assert_eq!(socket.receive(), encode(&Message::ProtocolVersion { major: 1, minor: 0 }));
+        socket.send(Message::VersionAnswer { ok: 1 });
+        socket
+    }
+
+    /// Likewise, tried again while all eight numbers are in use.
+    pub fn patient_peer(&self, partner: usize) -> Socket {
+        let end = Instant::now() + LIMIT;
+        loop {
+            let mut socket = self.socket(partner);
+            if matches!(socket.reader.next(&mut socket.stream), Ok(Some(_))) {
+                socket.send(Message::VersionAnswer { ok: 1 });
+                return socket;
+            }
+            assert!(Instant::now() < end, "no number of partner {partner} is free");
+            thread::sleep(Duration::from_millis(5));
+        }
+    }
+
+    /// Waits for a line of the log that has this text.
+    pub fn await_line(&self, text: &str) {
+        self.wait_until(|| self.has_line(text), &format!("no line with '{text}'"));
+    }
+
+    /// Waits until so many calls of the partner have been made to wait.
+    pub fn await_waits(&self, partner: usize, count: u64) {
+        self.wait_until(|| self.server.statistics()[partner].waited >= count, "no call waits");
+    }
+
+    fn wait_until(&self, condition: impl Fn() -> bool, otherwise: &str) {
+        let end = Instant::now() + LIMIT;
+        while !condition() {
+            assert!(Instant::now() < end, "{otherwise}: {:#?}", self.lines.lock());
+            thread::sleep(Duration::from_millis(5));
+        }
+    }
+
+    pub fn has_line(&self, text: &str) -> bool {
+        self.lines.lock().expect("no panic in a log").iter().any(|line| line.contains(text))
+    }
+}
+
+pub struct Socket {
+    pub stream: TcpStream,
+    reader: Reader,
+}
+
+impl Socket {
+    pub fn send(&mut self, message: Message) {
+        self.send_message(&encode(&message).expect("a message in range"));
+    }
+
+    pub fn send_message(&mut self, message: &[u8]) {
+        let mut frame = Vec::new();
+        append(message, &mut frame).expect("a frame");
+        self.send_bytes(&frame);
+    }
+
+    pub fn send_bytes(&mut self, bytes: &[u8]) {
+        self.stream.write_all(bytes).expect("the relay takes bytes");
+    }
+
+    /// The next message, or None at the end of the stream.
+    pub fn receive(&mut self) -> Option<Vec<u8>> {
+        self.reader.next(&mut self.stream).expect("a message or the end").map(<[u8]>::to_vec)
+    }
+
+    /// Whether the relay has closed the connection. What it sent before is passed over.
+    pub fn is_closed(&mut self) -> bool {
+        let mut rest = Vec::new();
+        match self.stream.read_to_end(&mut rest) {
+            Ok(_) => true,
+            // Closed with bytes unread.
+            Err(error) => error.kind() == std::io::ErrorKind::ConnectionReset,
+        }
+    }
+
+    pub fn leave(self) {
+        // It fails where the relay has closed the connection already.
+        let _ = self.stream.shutdown(Shutdown::Both);
+    }
+
+    /// Leases an id.
+    pub fn lease(&mut self) -> u32 {
+        self.send(Message::LeaseRequest);
+        let answer = self.receive().expect("an answer");
+        match codec::decode(&answer) {
+            Some(Message::LeaseGranted { id, .. }) => id,
+            other => panic!("{other:?}"),
+        }
+    }
+
+    /// Establishes a session with the holder of an id, who waits for it.
+    pub fn establish(&mut self, holder: &mut Socket) {
+        let id = holder.lease();
+        self.send(Message::EstablishRequest { id });
+        let answer = self.receive().expect("an answer");
+        assert!(matches!(codec::decode(&answer), Some(Message::Established { .. })), "{answer:?}");
+        let told = holder.receive().expect("a notification");
+        assert!(matches!(codec::decode(&told), Some(Message::EstablishNotification { .. })), "{told:?}");
+    }
+}
