@@ -7,7 +7,7 @@ use std::ops::RangeInclusive;
 use crate::Failure;
 
 /// An option that a command knows.
-pub struct Option {
+pub struct Known {
     /// With its dashes.
     pub name: &'static str,
     /// Whether it takes a value: `--name VALUE` or `--name=VALUE`.
@@ -23,7 +23,7 @@ pub struct Arguments {
 
 impl Arguments {
     /// Sorts what a command is given. After `--` nothing is an option.
-    pub fn parse(known: &[Option], given: Vec<OsString>) -> Result<Self, Failure> {
+    pub fn parse(known: &[Known], given: Vec<OsString>) -> Result<Self, Failure> {
         let mut found = Self { options: HashMap::new(), others: Vec::new() };
         let mut given = given.into_iter();
         while let Some(argument) = given.next() {
@@ -41,7 +41,7 @@ impl Arguments {
 
     fn take_option(
         &mut self,
-        known: &[Option],
+        known: &[Known],
         text: &str,
         rest: &mut impl Iterator<Item = OsString>,
     ) -> Result<(), Failure> {
@@ -72,7 +72,7 @@ impl Arguments {
     }
 
     /// An option's text, if it is given.
-    pub fn text(&self, name: &str) -> std::option::Option<&str> {
+    pub fn text(&self, name: &str) -> Option<&str> {
         self.options.get(name).map(String::as_str)
     }
 
@@ -94,6 +94,6 @@ impl Arguments {
     }
 }
 
-fn usage(why: String) -> Failure {
+pub fn usage(why: String) -> Failure {
     Failure::Usage(why)
 }

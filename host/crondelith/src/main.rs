@@ -7,10 +7,10 @@ mod peer;
 mod serve;
 
 use std::fmt::Display;
-use std::io::{stdout, Write};
+use std::io::{stderr, stdout, Write};
 use std::process::ExitCode;
 
-use arguments::Arguments;
+use arguments::{Arguments, Known};
 
 const HELP: &str = "\
 crondelith: a relay for remote support that eight device makers (partners) share
@@ -61,11 +61,11 @@ fn main() -> ExitCode {
 /// Runs a command, or prints its help.
 fn with_arguments(
     help: &str,
-    options: &[arguments::Option],
+    options: &[Known],
     given: Vec<std::ffi::OsString>,
     run: fn(Arguments) -> Outcome,
 ) -> Outcome {
-    if given.iter().any(|argument| argument == "--help" || argument == "-h") {
+    if given.iter().take_while(|argument| *argument != "--").any(|argument| argument == "--help" || argument == "-h") {
         say(help.trim_end());
         return Ok(());
     }
@@ -77,7 +77,12 @@ pub fn say(line: impl Display) {
     let _ = writeln!(stdout(), "{line}");
 }
 
+/// Likewise on stderr.
+pub fn note(line: &str) {
+    let _ = writeln!(stderr(), "crondelith: {line}");
+}
+
 fn end(why: &str, status: u8) -> ExitCode {
-    eprintln!("crondelith: {why}");
+    note(why);
     ExitCode::from(status)
 }

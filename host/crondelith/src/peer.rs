@@ -4,15 +4,14 @@ use std::fs::File;
 use std::io::{stderr, stdout, IsTerminal, Stderr, Write};
 use std::path::Path;
 use std::thread;
-use std::time::Duration;
 
 use codec::DATA_LIMIT;
 use peer::{confirm, receive_contents, send_contents, Error, Meter, PartFile, Peer, MESSAGE_SIZE};
 use server::PARTNERS;
 
-use crate::arguments::{self, Arguments};
+use crate::arguments::{usage, Arguments, Known};
 use crate::serve::{DEFAULT_BASE_PORT, HIGHEST_BASE_PORT};
-use crate::{Failure, Outcome};
+use crate::{note, Failure, Outcome};
 
 pub const HELP: &str = "\
 usage: crondelith peer receive FILE [OPTIONS]
@@ -34,18 +33,16 @@ allowance is used up.
 The exit status is 0 if the whole file has come, 1 if not, and 2 if the arguments are wrong or FILE is in the way.
 ";
 
-pub const OPTIONS: [arguments::Option; 5] = [
-    arguments::Option { name: "--relay", has_value: true },
-    arguments::Option { name: "--base-port", has_value: true },
-    arguments::Option { name: "--partner", has_value: true },
-    arguments::Option { name: FORCE, has_value: false },
-    arguments::Option { name: SIZE, has_value: true },
+pub const OPTIONS: [Known; 5] = [
+    Known { name: "--relay", has_value: true },
+    Known { name: "--base-port", has_value: true },
+    Known { name: "--partner", has_value: true },
+    Known { name: FORCE, has_value: false },
+    Known { name: SIZE, has_value: true },
 ];
 
 const FORCE: &str = "--force";
 const SIZE: &str = "--message-size";
-/// How soon an interrupt is noticed.
-const POLL: Duration = Duration::from_millis(50);
 
 pub fn run(arguments: Arguments) -> Outcome {
     let direction = arguments.others.first().map(|word| word.to_string_lossy());
@@ -66,33 +63,35 @@ fn receive(arguments: &Arguments) -> Outcome {
     PartFile::check(file, replace).map_err(in_the_way)?;
     let peer = relay.connect()?;
     end_on_interrupt(&peer)?;
-    receive_at(peer, file, replace).map_err(|failure| match interrupt::asked() {
+    let (mut peer, length) = receive_at(peer, file, replace).map_err(|failure| match interrupt::asked() {
         true => Failure::Failed("interrupted before the whole file had come".into()),
         false => failure,
-    })
+    })?;
+    confirm(&mut peer, length)
+        .map_err(|error| Failure::Failed(format!("'{}' is complete, but {error}", file.display())))?;
+    note(&format!("'{}' is complete", file.display()));
+    finish(peer);
+    Ok(())
 }
 
-fn receive_at(mut peer: Peer, file: &Path, replace: bool) -> Outcome {
+/// Waits for a sender and writes its file, whose length it gives. The sender isn't told yet.
+fn receive_at(mut peer: Peer, file: &Path, replace: bool) -> Result<(Peer, u64), Failure> {
     let mut part = PartFile::create(file, replace).map_err(|error| failed_at(file, error))?;
     print_id(peer.lease().map_err(failed)?)?;
-    say("waiting for a sender; the id is its first argument");
+    note("waiting for a sender; the id is its first argument");
     await_session(&mut peer)?;
     let mut meter = begin_meter();
     let received = receive_contents(&mut peer, &mut part, |done, total| meter.update(done, total));
     meter.end();
     let length = received.map_err(failed)?;
     part.keep().map_err(|error| failed_at(file, error))?;
-    confirm(&mut peer, length)
-        .map_err(|error| Failure::Failed(format!("'{}' is complete, but {error}", file.display())))?;
-    say(&format!("'{}' is complete", file.display()));
-    finish(peer);
-    Ok(())
+    Ok((peer, length))
 }
 
 fn await_session(peer: &mut Peer) -> Outcome {
     let mut printed = Ok(());
     let waited = peer.await_session(|id| {
-        say("the relay hasn't extended the lease; this is a new id, and the old one is of no use");
+        note("the relay hasn't extended the lease; this is a new id, and the old one is of no use");
         printed = print_id(id);
     });
     waited.map_err(failed)?;
@@ -111,7 +110,7 @@ fn send(arguments: &Arguments) -> Outcome {
     let sent = send_contents(&mut peer, file, length, size, |done, total| meter.update(done, total));
     meter.end();
     sent.map_err(failed)?;
-    say("the receiver has confirmed the whole file");
+    note("the receiver has confirmed the whole file");
     finish(peer);
     Ok(())
 }
@@ -155,9 +154,7 @@ impl<'a> Relay<'a> {
 fn end_on_interrupt(peer: &Peer) -> Outcome {
     let closer = peer.closer();
     let watch = move || {
-        while !interrupt::asked() {
-            thread::sleep(POLL);
-        }
+        interrupt::wait();
         closer.close();
     };
     thread::Builder::new().spawn(watch).map_err(|error| failed(Error::Thread(error)))?;
@@ -173,22 +170,13 @@ fn print_id(id: u32) -> Outcome {
 }
 
 fn begin_meter() -> Meter<Stderr> {
-    say("the session is established");
+    note("the session is established");
     Meter::new(stderr(), stderr().is_terminal())
 }
 
 /// The transfer is complete, so an error in parting changes nothing.
 fn finish(peer: Peer) {
     let _ = peer.finish();
-}
-
-/// A line that can't be written mustn't end a transfer.
-fn say(line: &str) {
-    let _ = writeln!(stderr(), "crondelith: {line}");
-}
-
-fn usage(why: String) -> Failure {
-    Failure::Usage(why)
 }
 
 fn failed(error: Error) -> Failure {

@@ -1,14 +1,11 @@
 //! `crondelith serve`: the relay, until it is interrupted.
 
-use std::io::{stderr, Write};
 use std::net::TcpListener;
-use std::thread;
-use std::time::Duration;
 
-use server::{bind, Log, Server, Settings, Statistics, SystemClock, PARTNERS};
+use server::{bind, Log, Server, Settings, SystemClock, PARTNERS};
 
-use crate::arguments::{self, Arguments};
-use crate::{Failure, Outcome};
+use crate::arguments::{Arguments, Known};
+use crate::{note, Failure, Outcome};
 
 pub const DEFAULT_BASE_PORT: u16 = 7700;
 /// The highest from which each partner has a port.
@@ -32,12 +29,10 @@ message costs 32 and its length. The protocol has no message for a refusal, so t
   a ninth connection         is closed at once
 
 Each has a log line on stderr; repeated lines are summed up every 5 seconds. At most some 256 KiB wait for a connection
-that reads slowly: beyond that its senders wait too. One that reads nothing for 30 seconds is closed.
+that reads slowly: beyond that its senders wait too. One that reads next to nothing for 30 seconds is closed.
 ";
 
-pub const OPTIONS: [arguments::Option; 1] = [arguments::Option { name: "--base-port", has_value: true }];
-
-const POLL: Duration = Duration::from_millis(50);
+pub const OPTIONS: [Known; 1] = [Known { name: "--base-port", has_value: true }];
 
 pub fn run(arguments: Arguments) -> Outcome {
     arguments.others([])?;
@@ -45,31 +40,14 @@ pub fn run(arguments: Arguments) -> Outcome {
     interrupt::watch();
     let server = bind(Some(base_port)).and_then(start).map_err(|error| Failure::Failed(error.to_string()))?;
     for (partner, address) in server.addresses().iter().enumerate() {
-        log(&format!("partner {partner} at {address}"));
+        note(&format!("partner {partner} at {address}"));
     }
-    log("the relay runs; Ctrl-C ends it");
-    while !interrupt::asked() {
-        thread::sleep(POLL);
-    }
-    log("ends");
-    let statistics = server.stop();
-    for (partner, of_partner) in statistics.iter().enumerate() {
-        if *of_partner != Statistics::default() {
-            log(&summary(partner, of_partner));
-        }
-    }
+    note("the relay runs; Ctrl-C ends it");
+    interrupt::wait();
+    server.stop();
     Ok(())
 }
 
 fn start(listeners: Vec<TcpListener>) -> std::io::Result<Server> {
-    Server::start(listeners, Settings::new(SystemClock, Log::new(log)))
-}
-
-fn summary(partner: usize, Statistics { done, waited, dropped, bytes }: &Statistics) -> String {
-    format!("partner {partner}: {done} calls done, {waited} made to wait, {dropped} dropped, {bytes} bytes")
-}
-
-/// A log that can't be written mustn't end the relay.
-fn log(line: &str) {
-    let _ = writeln!(stderr(), "crondelith: {line}");
+    Server::start(listeners, Settings::new(SystemClock, Log::new(note)))
 }

@@ -77,19 +77,35 @@ fn wrong_arguments_give_one_line_and_status_2() {
 fn a_port_in_use_is_named() {
     let taken = TcpListener::bind("127.0.0.1:0").expect("a port");
     let port = taken.local_addr().expect("its address").port();
-    // Partner 2's.
-    let output = run(&["serve", "--base-port", &(port - 2).to_string()]);
+    let output = run(&["serve", "--base-port", &port.to_string()]);
     assert_eq!(output.status.code(), Some(1));
-    assert!(stderr(&output).contains("crondelith: port "), "{}", stderr(&output));
+    assert!(stderr(&output).starts_with(&format!("crondelith: port {port} of partner 0: ")), "{}", stderr(&output));
     assert_eq!(stderr(&output).lines().count(), 1);
 }
 
 #[test]
 fn a_peer_says_that_nothing_listens() {
-    let unused = TcpListener::bind("127.0.0.1:0").expect("a port").local_addr().expect("its address").port();
-    let output = run(&["peer", "send", "5", PROGRAM, "--base-port", &unused.to_string()]);
+    // A port that nobody has but root.
+    let output = run(&["peer", "send", "5", PROGRAM, "--base-port", "1"]);
     assert_eq!(output.status.code(), Some(1));
     assert_eq!(stderr(&output).lines().count(), 1, "{}", stderr(&output));
+}
+
+#[test]
+fn closed_outputs_change_no_exit_status() {
+    let status = |arguments: &str| {
+        let command = format!("'{PROGRAM}' {arguments} >&- 2>&-");
+        Command::new("sh").args(["-c", &command]).status().expect("a shell").code()
+    };
+    assert_eq!(status("--help"), Some(0));
+    assert_eq!(status("dance"), Some(2));
+    assert_eq!(status("peer send 5 /nonexistent"), Some(1));
+}
+
+#[test]
+fn after_two_dashes_nothing_is_an_option() {
+    let output = run(&["peer", "send", "x", "--", "--help"]);
+    assert_eq!(output.status.code(), Some(2), "{}", stderr(&output));
 }
 
 #[test]
@@ -99,6 +115,12 @@ fn a_file_that_is_there_is_not_replaced() {
     let output = run(&["peer", "receive", file.to_str().expect("a path")]);
     assert_eq!(output.status.code(), Some(2), "{}", stderr(&output));
     assert_eq!(fs::read(&file).expect("the file"), b"kept");
+}
+
+/// Sends a signal, as a user does.
+fn signal(child: &Child, name: &str) {
+    let sent = Command::new("kill").args([&format!("-{name}"), &child.id().to_string()]).status();
+    assert!(sent.expect("kill runs").success());
 }
 
 /// A relay that serves, ended with the test.
@@ -145,9 +167,13 @@ impl Relay {
         command
     }
 
-    fn interrupt(&self) {
-        let sent = Command::new("kill").args(["-INT", &self.child.id().to_string()]).status();
-        assert!(sent.expect("kill runs").success());
+    /// A receiver that waits for a sender, and its id.
+    fn receiver(&self, file: &Path, options: &[&str]) -> (Child, String) {
+        let arguments = [&["receive", file.to_str().expect("a path")][..], options].concat();
+        let mut receiver = self.peer(&arguments).spawn().expect("the program runs");
+        let mut id = String::new();
+        BufReader::new(receiver.stdout.take().expect("its output")).read_line(&mut id).expect("an id");
+        (receiver, id.trim().to_owned())
     }
 
     /// The exit status, and the rest of the log.
@@ -178,10 +204,11 @@ fn a_file_goes_through_the_relay_and_the_interrupt_ends_it() {
     let contents: Vec<u8> = (0..100_000_u64).map(|place| (place * place / 7) as u8).collect();
     fs::write(&original, &contents).expect("a file");
 
-    let mut receiver = relay.peer(&["receive", copy.to_str().expect("a path")]).spawn().expect("the program runs");
-    let mut id = String::new();
-    BufReader::new(receiver.stdout.take().expect("its output")).read_line(&mut id).expect("an id");
-    let sender = relay.peer(&["send", id.trim(), original.to_str().expect("a path")]).output().expect("a run");
+    fs::write(&copy, "an old one").expect("a file");
+    let (receiver, id) = relay.receiver(&copy, &["--force"]);
+    let options = ["--relay", "localhost", "--message-size", "1000"];
+    let arguments = [&["send", &id, original.to_str().expect("a path")][..], &options].concat();
+    let sender = relay.peer(&arguments).output().expect("a run");
     assert_eq!(sender.status.code(), Some(0), "{}", stderr(&sender));
     let received = receiver.wait_with_output().expect("a run");
     assert_eq!(received.status.code(), Some(0), "{}", stderr(&received));
@@ -189,20 +216,39 @@ fn a_file_goes_through_the_relay_and_the_interrupt_ends_it() {
 
     let wrong = relay.peer(&["send", "67108863", original.to_str().expect("a path")]).output().expect("a run");
     assert_eq!(wrong.status.code(), Some(1), "an id that nobody has: {}", stderr(&wrong));
-    relay.interrupt();
+    signal(&relay.child, "INT");
     let (status, log) = relay.await_end();
     assert_eq!(status, Some(0));
-    assert!(log.contains("partner 3: ") && log.contains("calls done"), "{log}");
+    // 100 messages of 1,000 bytes among them.
+    let done = log.split("partner 3: ").find_map(|rest| rest.split_once(" calls done")).expect("a summary").0;
+    assert!(done.parse::<u32>().is_ok_and(|done| done > 110), "{log}");
+}
+
+#[test]
+fn an_interrupted_receiver_leaves_nothing_half() {
+    let relay = Relay::start();
+    let folder = folder("interrupted");
+    for name in ["INT", "TERM"] {
+        let (receiver, _) = relay.receiver(&folder.join("copy"), &[]);
+        assert_eq!(fs::read_dir(&folder).expect("the folder").count(), 1, "the part that is there meanwhile");
+        signal(&receiver, name);
+        let output = receiver.wait_with_output().expect("a run");
+        assert_eq!(output.status.code(), Some(1));
+        assert!(stderr(&output).contains("interrupted before the whole file had come"), "{}", stderr(&output));
+        assert_eq!(fs::read_dir(&folder).expect("the folder").count(), 0);
+    }
 }
 
 #[test]
 fn the_interrupt_ends_a_relay_with_connections() {
-    let relay = Relay::start();
-    let port: u16 = relay.base_port.parse().expect("a port");
-    let idle: Vec<_> = (0..3).map(|partner| std::net::TcpStream::connect(("127.0.0.1", port + partner))).collect();
-    relay.interrupt();
-    assert_eq!(relay.await_end().0, Some(0));
-    assert!(idle.into_iter().all(|socket| socket.is_ok()));
+    for name in ["INT", "TERM"] {
+        let relay = Relay::start();
+        let port: u16 = relay.base_port.parse().expect("a port");
+        let idle: Vec<_> = (0..3).map(|partner| std::net::TcpStream::connect(("127.0.0.1", port + partner))).collect();
+        signal(&relay.child, name);
+        assert_eq!(relay.await_end().0, Some(0));
+        assert!(idle.into_iter().all(|socket| socket.is_ok()));
+    }
 }
 
 #[test]
@@ -211,5 +257,10 @@ fn the_demonstration_shows_that_the_flood_does_no_harm() {
     let output = run(&["demo"]);
     assert_eq!(output.status.code(), Some(0), "{}", stderr(&output));
     assert!(start.elapsed() < Duration::from_secs(30));
-    assert!(stdout(&output).contains("The file arrived unchanged both times"), "{}", stdout(&output));
+    let printed = stdout(&output);
+    assert!(printed.contains("The file arrived unchanged both times"), "{printed}");
+    // The flood has done all that its allowance pays for, and has been made to wait.
+    let flood = printed.lines().find_map(|line| line.strip_prefix("with the flood: the flood")).expect("its row");
+    let numbers: Vec<u32> = flood.split_whitespace().filter_map(|word| word.replace(',', "").parse().ok()).collect();
+    assert!(numbers[0] > 10_000 && numbers[1] >= 3, "{printed}");
 }

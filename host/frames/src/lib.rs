@@ -3,7 +3,7 @@
 
 mod reader;
 
-pub use reader::{Error, Reader};
+pub use reader::{is_timeout, Error, Reader};
 
 /// The longest message: the length has two bytes and counts the type.
 pub const MESSAGE_LIMIT: usize = 65_534;

@@ -34,8 +34,13 @@ impl std::error::Error for Error {}
 impl Error {
     /// Whether only the time to wait for bytes is over.
     pub fn is_timeout(&self) -> bool {
-        matches!(self, Self::Io(error) if matches!(error.kind(), io::ErrorKind::WouldBlock | io::ErrorKind::TimedOut))
+        matches!(self, Self::Io(error) if is_timeout(error))
     }
+}
+
+/// Whether a socket's time limit is what ended a read or write.
+pub fn is_timeout(error: &io::Error) -> bool {
+    matches!(error.kind(), io::ErrorKind::WouldBlock | io::ErrorKind::TimedOut)
 }
 
 /// Reads frames. Its buffer holds the largest, so a frame is read whole before it is handed out.

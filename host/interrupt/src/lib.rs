@@ -4,9 +4,14 @@
 
 use std::ffi::c_int;
 use std::sync::atomic::{AtomicBool, Ordering};
+use std::thread;
+use std::time::Duration;
 
 const SIGINT: c_int = 2;
 const SIGTERM: c_int = 15;
+
+/// How soon a signal is noticed.
+const POLL: Duration = Duration::from_millis(50);
 
 static ASKED: AtomicBool = AtomicBool::new(false);
 
@@ -29,4 +34,11 @@ pub fn watch() {
 /// Whether one of the signals has come since [`watch`].
 pub fn asked() -> bool {
     ASKED.load(Ordering::Relaxed)
+}
+
+/// Waits until one has.
+pub fn wait() {
+    while !asked() {
+        thread::sleep(POLL);
+    }
 }

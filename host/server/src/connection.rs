@@ -51,6 +51,8 @@ pub enum End {
     Refused(Refusal),
     /// The peer doesn't speak the relay's version.
     OtherVersion,
+    /// What is sent to it can't be written any more.
+    Unwritable,
     Stopped,
     Failed(io::Error),
 }
@@ -62,6 +64,7 @@ impl fmt::Display for End {
             Self::Unreadable(error) => write!(to, "closed, {error}"),
             Self::Refused(refusal) => refusal.fmt(to),
             Self::OtherVersion => write!(to, "closed, the peer doesn't accept the relay's version"),
+            Self::Unwritable => write!(to, "closed, the peer takes nothing more"),
             Self::Stopped => write!(to, "closed, the relay ends"),
             Self::Failed(error) => write!(to, "closed, {error}"),
         }
@@ -89,8 +92,8 @@ impl Connection<'_> {
     fn write(&self, stream: &TcpStream) {
         let patience = self.shared.patience;
         if let Err(error) = self.queue.write_to(stream, patience) {
-            if matches!(error.kind(), io::ErrorKind::WouldBlock | io::ErrorKind::TimedOut) {
-                self.log(format_args!("given up, the peer has read nothing for {} s", patience.as_secs()));
+            if frames::is_timeout(&error) {
+                self.log(format_args!("given up, the peer has read next to nothing for {} s", patience.as_secs()));
             }
             let _ = stream.shutdown(Shutdown::Both);
         }
@@ -117,6 +120,7 @@ impl Connection<'_> {
         let mut buffer = RelayBuffer::new(MESSAGE_LIMIT);
         loop {
             let taken = match reader.next(&mut stream) {
+                _ if self.queue.has_ended() => Err(End::Unwritable),
                 Ok(Some(message)) => self.take(message, &mut buffer),
                 Ok(None) => Err(if self.shared.stop.is_ordered() { End::Stopped } else { End::Left }),
                 Err(error) => Err(End::Unreadable(error)),
@@ -131,17 +135,16 @@ impl Connection<'_> {
     fn take(&self, message: &[u8], buffer: &mut [u8]) -> Result<(), End> {
         match self.offer(message, buffer) {
             Ok(Done { disconnect: true, .. }) => Err(End::OtherVersion),
-            Ok(Done { destination, .. }) => {
-                self.queue.wait_for_room();
-                if let Some(queue) = destination {
-                    queue.wait_for_room();
-                }
+            Ok(Done { filled, .. }) => {
+                filled.into_iter().flatten().for_each(|queue| queue.wait_for_room());
                 Ok(())
             }
             Err(End::Refused(refusal)) if refusal.consequence() == Consequence::Drop => {
                 self.shared.relay.count_drop(self.number);
                 self.log(refusal);
-                thread::sleep(PAUSE);
+                if self.shared.stop.wait(PAUSE) {
+                    return Err(End::Stopped);
+                }
                 Ok(())
             }
             Err(end) => Err(end),
@@ -171,6 +174,9 @@ impl Connection<'_> {
             }
             if self.shared.stop.wait(self.shared.relay.clock().until_next()) {
                 return Err(End::Stopped);
+            }
+            if self.queue.has_ended() {
+                return Err(End::Unwritable);
             }
         }
     }

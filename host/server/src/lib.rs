@@ -9,6 +9,7 @@ mod clock;
 mod connection;
 mod lock;
 mod log;
+mod port;
 mod queue;
 mod refusal;
 mod relay;
@@ -17,9 +18,10 @@ mod statistics;
 mod stop;
 mod turns;
 
-pub use clock::{Clock, SystemClock};
+pub use clock::{Clock, JumpingClock, SystemClock};
 pub use log::Log;
-pub use server::{bind, Server, Settings};
+pub use port::bind;
+pub use server::{Server, Settings};
 pub use statistics::Statistics;
 
 pub const PARTNERS: usize = 8;

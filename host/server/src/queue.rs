@@ -3,7 +3,7 @@
 //! A message that the engine has accepted is always taken, so that the order of the engine's calls is the order on the
 //! wire and nothing is lost. The bound is kept by the connections that fill a queue: one whose last message left a queue
 //! at the bound reads no further message until the queue is below it, and TCP slows its peer. So a queue holds at most
-//! the bound and one message of each connection of the partner. One whose peer takes no byte for some time is given up,
+//! the bound and one message of each connection of the partner. One whose peer takes nothing for some time is given up,
 //! which frees those that wait for it.
 
 use std::io::{self, Write};
@@ -45,6 +45,11 @@ impl Queue {
     pub fn wait_for_room(&self) {
         let is_full = |state: &mut State| !state.ended && state.waiting.len() + state.taken >= BOUND;
         drop(wait_while(&self.changed, lock(&self.state), is_full));
+    }
+
+    /// Whether nothing is added any more; before [`Queue::end`], because it can't be written.
+    pub fn has_ended(&self) -> bool {
+        lock(&self.state).ended
     }
 
     /// Nothing is added any more. What waits is still written.

@@ -28,8 +28,8 @@ struct State {
 
 /// What follows for the host from an accepted message.
 pub struct Done {
-    /// The queue that a message for another connection was added to.
-    pub destination: Option<Arc<Queue>>,
+    /// The queues that something was added to: the caller's and the destination's.
+    pub filled: [Option<Arc<Queue>>; 2],
     /// The caller's connection has to be ended; the engine has closed it.
     pub disconnect: bool,
 }
@@ -77,12 +77,12 @@ impl Relay {
         let caller = connection as u64;
         let answer = accepted(relay::message(state.tables(), now, caller, message, random, &mut reply, relay_buffer))?;
         state.of_partner(connection).bytes += message.len() as u64;
-        let destination = state.deliver(connection, answer, &reply, relay_buffer);
+        let filled = state.deliver(connection, answer, &reply, relay_buffer);
         let disconnect = answer.disconnect != 0;
         if disconnect {
             state.queues[connection] = None;
         }
-        Ok(Done { destination, disconnect })
+        Ok(Done { filled, disconnect })
     }
 
     /// Closes a connection; its session, if it has one, ends.
@@ -127,15 +127,19 @@ impl State {
     }
 
     /// Adds what an accepted call sends to the queues that it is for, under the lock, so that a queue's order is that of
-    /// the calls. Gives the destination's queue.
-    fn deliver(&mut self, caller: usize, answer: Answer, reply: &[u8], relay: &[u8]) -> Option<Arc<Queue>> {
+    /// the calls.
+    fn deliver(&mut self, caller: usize, answer: Answer, reply: &[u8], relay: &[u8]) -> [Option<Arc<Queue>>; 2] {
         self.of_partner(caller).done += 1;
-        if let (Some(queue), Some(message @ [_, ..])) = (&self.queues[caller], reply.get(..answer.reply as usize)) {
-            queue.append(message);
-        }
-        let destination = self.queues.get(answer.destination as usize)?.clone()?;
-        destination.append(relay.get(..answer.relay as usize)?);
-        Some(destination)
+        let destination = answer.destination as usize;
+        [self.add(caller, reply, answer.reply), self.add(destination, relay, answer.relay)]
+    }
+
+    /// Adds a message at the start of a buffer, if there is one, to a connection's queue.
+    fn add(&self, connection: usize, buffer: &[u8], length: u32) -> Option<Arc<Queue>> {
+        let message = buffer.get(..length as usize).filter(|message| !message.is_empty())?;
+        let queue = self.queues.get(connection)?.as_ref()?;
+        queue.append(message);
+        Some(Arc::clone(queue))
     }
 }
 

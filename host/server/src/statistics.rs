@@ -1,5 +1,7 @@
 //! What a partner got from the relay.
 
+use std::fmt;
+
 #[derive(Clone, Copy, Debug, Default, PartialEq, Eq)]
 pub struct Statistics {
     /// Opens, messages and closes that were accepted.
@@ -10,4 +12,11 @@ pub struct Statistics {
     pub dropped: u64,
     /// Bytes of the accepted messages.
     pub bytes: u64,
+}
+
+impl fmt::Display for Statistics {
+    fn fmt(&self, to: &mut fmt::Formatter) -> fmt::Result {
+        let Self { done, waited, dropped, bytes } = self;
+        write!(to, "{done} calls done, {waited} made to wait, {dropped} dropped, {bytes} bytes")
+    }
 }

@@ -2,13 +2,12 @@
 
 use std::io::{self, Read, Write};
 use std::net::{Ipv4Addr, Shutdown, TcpListener, TcpStream};
-use std::sync::atomic::{AtomicU64, Ordering};
 use std::thread;
 use std::time::{Duration, Instant};
 
 use codec::{Message, DATA_LIMIT};
 use peer::Peer;
-use server::{bind, Clock, Log, Server, Settings};
+use server::{bind, JumpingClock, Log, Server, Settings};
 
 use super::measure::Medians;
 use super::{Row, Section};
@@ -28,7 +27,7 @@ pub fn section() -> Result<Section, Failure> {
 
 fn measure() -> io::Result<Row> {
     let frame = largest_frame().ok_or(io::ErrorKind::InvalidData)?;
-    let settings = Settings::new(Jumping::default(), Log::new(|_| ()));
+    let settings = Settings::new(JumpingClock::default(), Log::new(|_| ()));
     let server = bind(None).and_then(|listeners| Server::start(listeners, settings))?;
     let (caller, holder) = session(&server).map_err(io::Error::other)?;
     let (mut relayed, mut copied) = (Vec::new(), Vec::new());
@@ -68,6 +67,10 @@ fn round(mut from: &TcpStream, mut to: &TcpStream, frame: &[u8]) -> io::Result<D
             thread::Builder::new().spawn_scoped(scope, move || (0..FRAMES).try_for_each(|_| from.write_all(frame)))?;
         let mut block = vec![0; frame.len()];
         let received = (0..FRAMES).try_for_each(|_| to.read_exact(&mut block));
+        if received.is_err() {
+            // The sender may wait in a write.
+            from.shutdown(Shutdown::Both)?;
+        }
         received.and(sender.join().unwrap_or(Err(io::ErrorKind::Other.into())))
     })?;
     Ok(start.elapsed())
@@ -109,18 +112,4 @@ fn pair() -> io::Result<(TcpStream, TcpStream)> {
 fn nanoseconds(mut rounds: Vec<Duration>) -> f64 {
     rounds.sort_unstable();
     rounds[ROUNDS / 2].as_secs_f64() * 1e9 / FRAMES as f64
-}
-
-/// A clock on which no allowance is ever used up: what is measured is the relaying, not the waiting.
-#[derive(Default)]
-struct Jumping(AtomicU64);
-
-impl Clock for Jumping {
-    fn now(&self) -> u64 {
-        self.0.fetch_add(4, Ordering::Relaxed)
-    }
-
-    fn until_next(&self) -> Duration {
-        Duration::from_millis(1)
-    }
 }

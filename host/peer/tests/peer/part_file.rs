@@ -60,10 +60,12 @@ fn what_exists_is_replaced_only_if_asked_for() {
     drop(part);
     assert!(matches!(PartFile::check(&whole, false), Err(Error::Exists(path)) if path.ends_with("file")));
     PartFile::check(&whole, true).expect("free to replace");
+    fs::write(folder.0.join("file.part"), "a longer one of long ago").expect("written");
     let mut part = PartFile::create(&whole, true).expect("a file");
+    part.write_all(b"new").expect("written");
     assert_eq!(fs::read(&whole).expect("the file"), b"old");
     part.keep().expect("kept");
-    assert_eq!(fs::read(&whole).expect("the file"), b"");
+    assert_eq!(fs::read(&whole).expect("the file"), b"new");
 }
 
 #[test]

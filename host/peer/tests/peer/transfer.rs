@@ -2,7 +2,9 @@
 
 use std::io::{self, Read, Write};
 use std::net::SocketAddr;
+use std::sync::atomic::{AtomicBool, Ordering};
 use std::sync::mpsc::{self, Receiver, RecvTimeoutError};
+use std::sync::Arc;
 use std::thread;
 use std::time::Duration;
 
@@ -142,6 +144,40 @@ fn after_the_answer_the_relay_may_close() {
     assert_eq!((outcome.expect("a file"), written.as_slice()), (3, &b"one"[..]));
 }
 
+/// A disk that is slow to make safe what was written.
+struct Slow(Arc<AtomicBool>);
+
+impl Write for Slow {
+    fn write(&mut self, bytes: &[u8]) -> io::Result<usize> {
+        Ok(bytes.len())
+    }
+
+    fn flush(&mut self) -> io::Result<()> {
+        thread::sleep(Duration::from_millis(200));
+        self.0.store(true, Ordering::SeqCst);
+        Ok(())
+    }
+}
+
+#[test]
+fn the_whole_length_is_told_when_the_file_is_safe() {
+    let safe = Arc::new(AtomicBool::new(false));
+    let seen = Arc::clone(&safe);
+    let (address, relay) = scripted(move |mut connection| {
+        connection.shake_hands();
+        connection.grant_lease(LATER);
+        connection.send(Message::EstablishNotification { session: SESSION });
+        announce(&mut connection, 40_000);
+        connection.send(Message::DataReceive { data: &[1; 35_000] });
+        connection.expect(Message::DataSend { data: &35_000_u64.to_be_bytes() });
+        connection.send(Message::DataReceive { data: &[1; 5_000] });
+        connection.expect(Message::DataSend { data: &40_000_u64.to_be_bytes() });
+        assert!(seen.load(Ordering::SeqCst), "told before it was safe");
+    });
+    receive_file(&mut holder(address), Slow(safe), |_, _| ()).expect("a file");
+    relay.join().expect("the relay");
+}
+
 /// A disk without room.
 struct Full;
 
@@ -230,6 +266,21 @@ impl<R: Read> Read for Noting<R> {
         let _ = self.to_relay.send(count);
         Ok(count)
     }
+}
+
+#[test]
+fn the_sender_is_never_far_ahead_of_the_receiver() {
+    let (to_test, reads) = mpsc::channel();
+    let error = send_at(Noting { reader: io::repeat(1), to_relay: to_test }, 1 << 30, move |connection| {
+        let mut read = 0;
+        while let Ok(count) = reads.recv_timeout(Duration::from_millis(500)) {
+            read += count;
+        }
+        assert!((131_072..=131_072 + 2 * MESSAGE_SIZE).contains(&read), "{read}");
+        connection.send(Message::SessionEndNotification);
+        connection.drain();
+    });
+    assert_words(error.expect_err("not sent"), &["0 of 1,073,741,824 bytes had arrived"]);
 }
 
 #[test]

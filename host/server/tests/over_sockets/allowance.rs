@@ -1,11 +1,11 @@
 //! Waiting for allowance over real sockets: nothing is lost, and no neighbour waits.
 
-use std::time::{Duration, Instant};
+use std::time::Duration;
 
 use codec::{encode, Message};
 
 use crate::clocks::{Backward, Standing};
-use crate::support::{Relay, Socket, LIMIT};
+use crate::support::{assert_stops, Relay, Socket, LIMIT};
 
 /// Data that costs a whole second's refill.
 static DATA: [u8; 65_536 - 33] = [7; 65_536 - 33];
@@ -109,9 +109,7 @@ fn the_server_stops_while_messages_wait() {
         peer.send(Message::Keepalive);
     }
     relay.await_line("connection 0: refused with 9");
-    let start = Instant::now();
-    relay.server.stop();
-    assert!(start.elapsed() < Duration::from_secs(5));
+    assert_stops(relay);
     assert!(peer.is_closed());
 }
 

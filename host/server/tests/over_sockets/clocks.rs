@@ -29,20 +29,6 @@ impl Clock for Standing {
     }
 }
 
-/// Goes on so fast that no allowance is ever used up.
-#[derive(Default)]
-pub struct Jumping(AtomicU64);
-
-impl Clock for Jumping {
-    fn now(&self) -> u64 {
-        self.0.fetch_add(4, Ordering::Relaxed)
-    }
-
-    fn until_next(&self) -> Duration {
-        SOON
-    }
-}
-
 /// Goes back by a second with each reading.
 pub struct Backward(AtomicU64);
 

@@ -4,4 +4,5 @@ mod allowance;
 mod clocks;
 mod slow_readers;
 mod sockets;
+mod stopping;
 mod support;

@@ -21,10 +21,12 @@ fn data_goes_to_the_peer_in_session_and_the_end_is_told() {
     assert_eq!(caller.receive(), encode(&Message::DataReceive { data: b"two" }));
     caller.send(Message::SessionEnd);
     assert_eq!(holder.receive(), encode(&Message::SessionEndNotification));
-    let got = relay.server.stop();
+    let (got, log) = relay.stop();
     // Two opens, two version answers, lease, establish, three sends and the end; then both connections are closed.
     assert_eq!((got[2].done, got[2].waited), (12, 0));
+    assert_eq!(got[2].bytes, 2 * 2 + 2 + 5 + (4 + 1 + 4) + 1);
     assert_eq!(got[3], Default::default());
+    assert!(log.contains(&"partner 2, connection 16: closed, the relay ends".to_owned()), "{log:?}");
 }
 
 #[test]
@@ -93,8 +95,10 @@ fn a_message_without_a_session_is_dropped_and_the_connection_goes_on() {
     peer.send(Message::DataSend { data: b"to nobody" });
     peer.send(Message::SessionEnd);
     assert!(peer.lease() < 1 << 26);
-    relay.await_line("partner 6, connection 48: refused with 8");
-    assert_eq!(relay.server.stop()[6].dropped, 2);
+    let (got, log) = relay.stop();
+    assert_eq!(got[6].dropped, 2);
+    let refused = "partner 6, connection 48: refused with 8, there is no session: the message is dropped";
+    assert!(log.contains(&refused.to_owned()) && log.contains(&format!("{refused} (1 more)")), "{log:?}");
 }
 
 #[test]

@@ -8,7 +8,7 @@ use std::time::{Duration, Instant};
 
 use codec::{encode, Message};
 use frames::{append, Reader};
-use server::{bind, Clock, Log, Server, Settings, SystemClock};
+use server::{bind, Clock, Log, Server, Settings, Statistics, SystemClock, PARTNERS};
 
 /// What is awaited for longer than this won't come.
 pub const LIMIT: Duration = Duration::from_secs(10);
@@ -35,6 +35,12 @@ impl Relay {
         };
         let settings = Settings { patience, ..Settings::new(clock, log) };
         Self { server: Server::start(bind(None).expect("free ports"), settings).expect("a relay"), lines }
+    }
+
+    /// Stops it, and gives what each partner got and the log.
+    pub fn stop(self) -> ([Statistics; PARTNERS], Vec<String>) {
+        let statistics = self.server.stop();
+        (statistics, self.lines.lock().expect("no panic in a log").clone())
     }
 
     /// A socket to the partner's port; nothing has been said on it.
@@ -149,4 +155,11 @@ impl Socket {
         let told = holder.receive().expect("a notification");
         assert!(matches!(codec::decode(&told), Some(Message::EstablishNotification { .. })), "{told:?}");
     }
+}
+
+/// Stops the relay, which may not take long, whatever its peers do.
+pub fn assert_stops(relay: Relay) {
+    let start = Instant::now();
+    relay.stop();
+    assert!(start.elapsed() < LIMIT / 2, "it took {:?}", start.elapsed());
 }
