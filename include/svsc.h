@@ -1,6 +1,7 @@
 /* The messages of the ScreenView server protocol (SVSC): a reader and a writer for each form.
  *
- * Link libsvsc.a, which `rt staticlib svsc` writes. Each function is total: any bytes and any numbers get an answer.
+ * Link libsvsc_reader.a for the reader and libsvsc_writers.a for the writers, which `rt staticlib svsc_reader` and
+ * `rt staticlib svsc_writers` write. Each function is total: any bytes and any numbers get an answer.
  * Numbers in messages are most significant byte first. Buffers must not overlap.
  */
 #ifndef SVSC_H

@@ -5,7 +5,7 @@ use std::env;
 use std::path::{Path, PathBuf};
 
 const FOLDER_VARIABLE: &str = "CRONDELITH_LIB";
-const ARCHIVES: [&str; 2] = ["svsc", "relay"];
+const ARCHIVES: [&str; 3] = ["svsc_reader", "svsc_writers", "relay"];
 
 fn main() {
     println!("cargo::rerun-if-env-changed={FOLDER_VARIABLE}");
@@ -21,7 +21,7 @@ fn link(folder: &Path, name: &str) {
     let archive = folder.join(format!("lib{name}.a"));
     println!("cargo::rerun-if-changed={}", archive.display());
     if !archive.is_file() {
-        println!("cargo::error=no {}: run ./test in the repository, which builds it", archive.display());
+        println!("cargo::error=no {}: host/build-archives builds it", archive.display());
         return;
     }
     println!("cargo::rustc-link-lib=static={name}");

@@ -4,7 +4,7 @@ use mathlib.Core.Path.{_≡_, refl, sym, ap, _∙_}
 use mathlib.Core.Bool.{true, false}
 use mathlib.Core.Logic.{⊎-elim}
 use mathlib.Core.List.{List, []}
-use Rattle.rules.specs.Tables.{Tables, partnerOf, bucketOf, hasSession, setBucket, setClock, fresh}
+use Rattle.rules.specs.Tables.{lent, Tables, partnerOf, bucketOf, hasSession, setBucket, setClock, fresh}
 use lib.ListN.{length}
 use Rattle.octets.specs.Octets.{if_then_else_, put}
 use Rattle.octets.proofs.Tests.{by-test}
@@ -18,8 +18,9 @@ use Rattle.rules.specs.Calls.{Call, opening, closing, refusal, replyBuffer, rel
 use Rattle.rules.specs.Checks.{check, checkStart}
 use Rattle.rules.specs.Plans.{plan, planOpen, planEnd, planClose, doNothing}
 use Rattle.rules.specs.Step.{refused, done, outcome, step, started, start}
-use Rattle.relay.specs.declared.Answer.{Answer}
-use Rattle.relay.specs.Results.{Result, result, Handled, handled, applied, coded, shown, lent, replying}
+use Rattle.handlers.specs.declared.Answer.{Answer}
+use Rattle.relay.specs.Results.{Result, result, shown}
+use Rattle.handlers.specs.Applied.{Handled, handled, applied, coded, replying}
 
 -- a call that is refused, and one that is done
 module _ (tables : Tables) (call : Call) (k : ℕ) (e : k ≡ check tables call) where

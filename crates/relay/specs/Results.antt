@@ -1,18 +1,10 @@
 -- What an entry point answers and leaves, as one value; and the same of the rules' outcome, as C has it.
 use Prim.Native.Nat.{ℕ}
-use mathlib.Core.Bool.{true, false}
 use mathlib.Core.List.{List}
-use lib.ListN.{length}
-use Rattle.octets.specs.Octets.{if_then_else_, put}
-use Rattle.rules.specs.Sizes.{nobody}
 use Rattle.rules.specs.Tables.{Tables}
-use Rattle.rules.specs.Calls.{Outcome, Answer as Ruled}
-use Rattle.rules.specs.Plans.{Plan}
-use Rattle.relay.specs.declared.Answer.{Answer}
-
--- the three tables as they are lent
-abbrev pub lent : List ℕ → List ℕ → List ℕ → Tables
-lent cs ls al = record { connections = cs; leases = ls; allowances = al }
+use Rattle.rules.specs.Calls.{Outcome}
+use Rattle.handlers.specs.declared.Answer.{Answer}
+use Rattle.handlers.specs.Applied.{coded}
 
 -- the answer, the tables and the two buffers afterwards; a buffer that is not lent is empty
 pub record Result : Type 0 where
@@ -24,56 +16,5 @@ pub record Result : Type 0 where
 abbrev pub result : Answer → Tables → List ℕ → List ℕ → Result
 result a tables reply relay = record { answer = a; tables = tables; reply = reply; relay = relay }
 
--- yes is 1, no is 0
-abbrev pub coded : Ruled → Answer
-coded a = record {
-  number = a .number;
-  reply = a .replyLength;
-  relay = a .relayLength;
-  destination = a .destination;
-  disconnect = if a .disconnect then 1 else 0;
-}
-
 abbrev pub shown : Outcome → Result
 shown o = result (coded (o .answer)) (o .tables) (o .reply) (o .relay)
-
--- answers of calls that are done: bytes for the caller alone, and for another connection alone
-abbrev pub replying : ℕ → Ruled
-replying n = record { number = 0; replyLength = n; relayLength = 0; destination = nobody; disconnect = false }
-
-abbrev pub relaying : ℕ → ℕ → Ruled
-relaying n d = record { number = 0; replyLength = 0; relayLength = n; destination = d; disconnect = false }
-
-abbrev pub telling : ℕ → ℕ → ℕ → Ruled
-telling n k d = record { number = 0; replyLength = n; relayLength = k; destination = d; disconnect = false }
-
-abbrev pub disconnecting : Ruled
-disconnecting = record { number = 0; replyLength = 0; relayLength = 0; destination = nobody; disconnect = true }
-
--- ---- a plan, carried out: the answer, two tables and the buffers afterwards
-
-pub record Handled : Type 0 where
-  pub answer : Answer
-  pub connections : List ℕ
-  pub leases : List ℕ
-  pub reply : List ℕ
-  pub relay : List ℕ
-
-abbrev pub handled : Answer → List ℕ → List ℕ → List ℕ → List ℕ → Handled
-handled a cs ls reply relay = record { answer = a; connections = cs; leases = ls; reply = reply; relay = relay }
-
-unfoldable pub applied : Plan → List ℕ → List ℕ → Handled
-applied p reply relay =
-    handled
-    (coded
-    (record {
-      number = 0;
-      replyLength = length (p .reply);
-      relayLength = length (p .relay);
-      destination = p .destination;
-      disconnect = p .disconnect;
-    }))
-    (p .connections)
-    (p .leases)
-    (put reply 0 (p .reply))
-    (put relay 0 (p .relay))

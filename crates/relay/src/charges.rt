@@ -2,7 +2,7 @@
 ghost use mathlib.Core.Path.{_≡_};
 ghost use Rattle.allowance.specs.Bucket.{spend};
 ghost use Rattle.rules.specs.Tables.{partnerOf, bucketOf, setBucket, setClock};
-ghost use Rattle.relay.specs.Passed.{Payable};
+ghost use Rattle.checks.specs.Passed.{Payable};
 
 // Takes the cost from what the connection's partner has, and sets the clock.
 pub fn pay(allowances: &mut [u8], time: u64, c: u8, cost: u64)

@@ -3,38 +3,13 @@ ghost use mathlib.Core.Path.{_≡_};
 ghost use mathlib.Core.List.{[]};
 ghost use Prim.Native.Nat.{_≤_, _<_};
 ghost use lib.ListN.{length};
+ghost use Rattle.rules.specs.Tables.{lent};
 ghost use Rattle.rules.specs.Sizes.{connectionCount, leastBuffer};
 ghost use Rattle.rules.specs.Calls.{closing};
-ghost use Rattle.rules.specs.Checks.{check};
 ghost use Rattle.rules.specs.Plans.{planClose};
 ghost use Rattle.rules.specs.Step.{step, done};
-ghost use Rattle.relay.specs.Results.{lent, result, shown};
-use crate::Answer;
-
-fn refusal(
-    connections: &[u8],
-    leases: &[u8],
-    allowances: &[u8],
-    time: u64,
-    connection: u64,
-    relay: &[u8],
-) -> u32
-    ensures { λ r. ⌜ r ≡ check (lent (now (connections .entry)) (now (leases .entry)) (now (allowances .entry)))
-        (closing time connection (now (relay .entry))) ⌝ }
-{
-    let first = crate::checks::first_three(connections, leases, allowances, time, connection);
-    if first != 0 {
-        return first;
-    }
-    let c = connection as u8;
-    if tables::connections::state(connections, c) == rules::CLOSED {
-        return 4;
-    }
-    if relay.len() < rules::LEAST_BUFFER {
-        return 5;
-    }
-    0
-}
+ghost use Rattle.relay.specs.Results.{result, shown};
+use handlers::Answer;
 
 // The work of a close that passes its checks: its session, the rows that name it, its record and the clock.
 fn accept(
@@ -51,8 +26,8 @@ fn accept(
         (now (relay .entry)))
         (planClose (lent (now (connections .entry)) (now (leases .entry)) (now (allowances .entry))) c)) ⌝ }
 {
-    let answer = crate::sessions::end_if_any(connections, c, relay);
-    tables::leases::release(leases, c);
+    let answer = handlers::sessions::end_if_any(connections, c, relay);
+    leases::release(leases, c);
     tables::connections::clear(connections, c);
     tables::allowances::set_clock(allowances, time);
     answer
@@ -71,9 +46,9 @@ pub extern "C" fn crondelith_close(
         ≡ shown (step (lent (now (connections .entry)) (now (leases .entry)) (now (allowances .entry))) (closing time connection
         (now (relay .entry)))) ⌝ }
 {
-    let refusal = refusal(connections, leases, allowances, time, connection, relay);
+    let refusal = checks::close::refusal(connections, leases, allowances, time, connection, relay);
     if refusal != 0 {
-        return crate::answers::refused(refusal);
+        return handlers::answers::refused(refusal);
     }
     accept(
         connections,

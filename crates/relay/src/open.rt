@@ -3,43 +3,14 @@ ghost use mathlib.Core.Path.{_≡_};
 ghost use mathlib.Core.List.{List, []};
 ghost use Prim.Native.Nat.{ℕ, _≤_};
 ghost use lib.ListN.{length};
+ghost use Rattle.rules.specs.Tables.{lent};
 ghost use Rattle.rules.specs.Sizes.{callCost, leastBuffer};
 ghost use Rattle.rules.specs.Calls.{opening};
-ghost use Rattle.rules.specs.Checks.{check};
 ghost use Rattle.rules.specs.Plans.{planOpen};
 ghost use Rattle.rules.specs.Step.{step, done};
-ghost use Rattle.relay.specs.Results.{lent, result, shown};
-ghost use Rattle.relay.specs.Passed.{Payable};
-use crate::Answer;
-
-fn refusal(
-    connections: &[u8],
-    leases: &[u8],
-    allowances: &[u8],
-    time: u64,
-    connection: u64,
-    reply: &[u8],
-) -> u32
-    ensures { λ r. ⌜ r ≡ check (lent (now (connections .entry)) (now (leases .entry)) (now (allowances .entry)))
-        (opening time connection (now (reply .entry))) ⌝ }
-{
-    let first = crate::checks::first_three(connections, leases, allowances, time, connection);
-    if first != 0 {
-        return first;
-    }
-    let c = connection as u8;
-    if tables::connections::state(connections, c) != rules::CLOSED {
-        return 4;
-    }
-    if reply.len() < rules::LEAST_BUFFER {
-        return 5;
-    }
-    let partner = c as usize / rules::CONNECTIONS_PER_PARTNER;
-    if tables::allowances::level(allowances, partner, time) < rules::CALL_COST {
-        return 9;
-    }
-    0
-}
+ghost use Rattle.relay.specs.Results.{result, shown};
+ghost use Rattle.checks.specs.Passed.{Payable};
+use handlers::Answer;
 
 // The work of an open that passes its checks.
 fn accept(
@@ -56,8 +27,8 @@ fn accept(
 {
     tables::connections::await_version(connections, c);
     crate::charges::pay(allowances, time, c, rules::CALL_COST);
-    let sent = svsc::writers::svsc_write_version(reply, 1, 0);
-    crate::answers::replied(sent.length as u32)
+    let sent = svsc_writers::svsc_write_version(reply, 1, 0);
+    handlers::answers::replied(sent.length as u32)
 }
 
 #[no_mangle]
@@ -73,9 +44,9 @@ pub extern "C" fn crondelith_open(
         ≡ shown (step (lent (now (connections .entry)) (now (leases .entry)) (now (allowances .entry))) (opening time connection
         (now (reply .entry)))) ⌝ }
 {
-    let refusal = refusal(connections, leases, allowances, time, connection, reply);
+    let refusal = checks::open::refusal(connections, leases, allowances, time, connection, reply);
     if refusal != 0 {
-        return crate::answers::refused(refusal);
+        return handlers::answers::refused(refusal);
     }
     accept(connections, allowances, time, connection as u8, reply)
 }

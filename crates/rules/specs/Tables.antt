@@ -16,6 +16,9 @@ pub record Tables : Type 0 where
   pub leases : List ℕ
   pub allowances : List ℕ
 
+abbrev pub lent : List ℕ → List ℕ → List ℕ → Tables
+lent cs ls al = record { connections = cs; leases = ls; allowances = al }
+
 -- "Connection c belongs to partner c / 8 (whole part). Partner p owns lease rows 16p to 16p+15."
 abbrev pub partnerOf : ℕ → ℕ
 partnerOf c = c / connectionsPerPartner

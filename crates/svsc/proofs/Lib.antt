@@ -1,6 +1,4 @@
-pub mod Forms
-pub mod Cases
-pub mod Fields
 pub mod Writing
+pub mod Peers
 pub mod WrittenThenRead
 pub mod ReadThenWritten

@@ -1,6 +1,2 @@
 pub mod Records
 pub mod Repeated
-pub mod RowSearch
-pub mod RowRelease
-pub mod LeaseIds
-pub mod LeaseDecisions

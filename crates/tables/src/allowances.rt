@@ -1,6 +1,6 @@
 // The allowance table: each partner's level and when it was stored, and the clock, in the ninth record.
 ghost use mathlib.Core.Path.{_≡_};
-ghost use Prim.Native.Nat.{_+_, _-_, _<_};
+ghost use Prim.Native.Nat.{_+_, _<_};
 ghost use lib.ListN.{length};
 ghost use Rattle.allowance.specs.Bucket.{levelNow};
 ghost use Rattle.rules.specs.Sizes.{partners, allowancesSize};

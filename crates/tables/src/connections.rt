@@ -3,7 +3,7 @@
 ghost use mathlib.Core.Path.{_≡_};
 ghost use mathlib.Core.List.{_++_};
 ghost use lib.ListN.{length};
-ghost use Rattle.rules.specs.Tables.{state, peer, inSession, hasSession, isOpen, setState, opened, freshConnection};
+ghost use Rattle.rules.specs.Tables.{state, peer, inSession, hasSession, isOpen, setState, opened};
 ghost use Rattle.rules.specs.Sessions.{clear, await, join, leave, endSession, establish};
 
 // The state of a connection; a byte above 2 reads as closed.

@@ -4,7 +4,7 @@ ghost use Prim.Native.Nat.{ℕ, _*_, _≤_};
 ghost use lib.ListN.{length};
 ghost use Rattle.octets.specs.Octets.{put};
 ghost use Rattle.rules.specs.Sizes.{connectionsSize, leasesSize, allowancesSize};
-ghost use Rattle.rules.specs.Tables.{Tables, records, fresh};
+ghost use Rattle.rules.specs.Tables.{records, fresh};
 
 // Stores a row a number of times from the start of a table on.
 fn fill_records(table: &mut [u8], row: &[u8], count: usize)

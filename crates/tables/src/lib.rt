@@ -1,5 +1,4 @@
-// Code on the three tables, which the relay is lent as bytes.
+// Code on the connection and allowance tables, which the relay is lent as bytes, and the fresh state of all three.
 pub mod connections; // states and sessions
-pub mod leases; // the lease rows: searches, decisions and writes
 pub mod allowances; // levels and the clock
 pub mod fresh; // the tables of a fresh relay

@@ -4,16 +4,16 @@ use std::path::Path;
 use std::process::Command;
 
 #[test]
-fn the_codec_s_header_and_archive_serve_a_c_program() {
-    compile_and_run("svsc_check", engine::svsc::ARCHIVE);
+fn the_codec_s_header_and_archives_serve_a_c_program() {
+    compile_and_run("svsc_check", &engine::svsc::ARCHIVES);
 }
 
 #[test]
 fn the_relay_s_header_and_archive_serve_a_c_program() {
-    compile_and_run("crondelith_check", engine::relay::ARCHIVE);
+    compile_and_run("crondelith_check", &engine::relay::ARCHIVES);
 }
 
-fn compile_and_run(name: &str, archive: &str) {
+fn compile_and_run(name: &str, archives: &[&str]) {
     let host = Path::new(env!("CARGO_MANIFEST_DIR")).join("..");
     let program = Path::new(env!("CARGO_TARGET_TMPDIR")).join(name);
     let compiler = std::env::var("CC").unwrap_or("cc".into());
@@ -23,7 +23,7 @@ fn compile_and_run(name: &str, archive: &str) {
         .arg("-o")
         .arg(&program)
         .arg(host.join("c").join(name).with_extension("c"))
-        .arg(archive));
+        .args(archives));
     run(&mut Command::new(program));
 }
 

@@ -3,7 +3,7 @@
 use std::mem::{offset_of, size_of};
 
 /// The archive of these functions, for a C program to link too.
-pub const ARCHIVE: &str = env!("CRONDELITH_LINKED_SVSC");
+pub const ARCHIVES: [&str; 2] = [env!("CRONDELITH_LINKED_SVSC_READER"), env!("CRONDELITH_LINKED_SVSC_WRITERS")];
 
 pub const DONE: u32 = 0;
 /// The buffer is too short.

@@ -1,9 +1,9 @@
 -- `crondelith_close`: refused, or done.
 use native.Mathlib.Omega.{arith}
+use Rattle.rules.specs.Tables.{lent}
 use Rattle.rules.specs.Calls.{closing}
 use Rattle.rules.specs.Plans.{plan}
-use Rattle.relay.specs.Results.{lent}
-use Rattle.relay.proofs.Stops.{call-known, close-known}
+use Rattle.checks.proofs.Stops.{call-known, close-known}
 use Rattle.relay.proofs.Ways.{refused-way, done-way}
 use borrow.Author.Needs.{needs}
 use Rattle.relay.proofs.close.crondelith_close.Statement.{statement}

@@ -1,11 +1,10 @@
 -- `crondelith_message`: refused, or done.
 use native.Mathlib.Omega.{arith}
+use Rattle.rules.specs.Tables.{lent}
 use Rattle.rules.specs.Calls.{message}
-use Rattle.rules.specs.Plans.{plan}
-use Rattle.relay.specs.Results.{lent}
-use Rattle.relay.proofs.Stops.{call-known}
-use Rattle.relay.proofs.Ways.{refused-way, done-way}
-use Rattle.relay.proofs.MessageWays.{admitted, admitted-length, admitted-payable}
+use Rattle.checks.proofs.Stops.{call-known}
+use Rattle.relay.proofs.Ways.{refused-way}
+use Rattle.relay.proofs.MessageWays.{admitted, admitted-length, admitted-payable, message-way}
 use borrow.Author.Needs.{needs}
 use Rattle.relay.proofs.message.crondelith_message.Statement.{statement}
 use Rattle.relay.proofs.message.crondelith_message.Tie as tie
@@ -34,20 +33,26 @@ same-length-5 c = search needs
 returns : tie.Need-returns
 returns c =
     let a = c .before .before .before .before .before .before .before .before .before .before .before .before .before .before .before .args in
-    refused-way (lent (a .connections .now) (a .leases .now) (a .allowances .now)) (message (a .time) (a .connection) (a .m .now) (a .random .now) (a .reply .now) (a .relay .now)) _ (c .before .before .refusal .ensures) (c .before .if1 .taken) _ (c .refused .ensures)
+    refused-way (lent (a .connections .now) (a .leases .now) (a .allowances .now)) (message (a .time) (a .connection) (a .m .now) (a .random .now) (a .reply .now) (a .relay .now)) (c .before .before .refusal .result) (c .before .before .refusal .ensures) (c .before .if1 .taken) (c .refused .result) (c .refused .ensures)
 
-cast-accept : tie.Need-cast-accept
-cast-accept c =
-    let a = c .before .before .before .before .before .before .before .before .before .before .before .before .before .before .before .before .before .args in
-    let known = call-known (lent (a .connections .now) (a .leases .now) (a .allowances .now)) (message (a .time) (a .connection) (a .m .now) (a .random .now) (a .reply .now) (a .relay .now)) _ (c .before .before .before .before .refusal .ensures) (c .before .before .before .if1 .left) in
+cast-c : tie.Need-cast-c
+cast-c c =
+    let a = c .before .before .before .before .before .before .before .before .before .before .before .before .before .before .args in
+    let known = call-known (lent (a .connections .now) (a .leases .now) (a .allowances .now)) (message (a .time) (a .connection) (a .m .now) (a .random .now) (a .reply .now) (a .relay .now)) (c .before .refusal .result) (c .before .refusal .ensures) (c .if1 .left) in
     omega arith
 
-accept-requires : tie.Need-accept-requires
-accept-requires c κs =
+handle-requires : tie.Need-handle-requires
+handle-requires c κs =
     let a = c .before .before .before .before .before .before .before .before .before .before .before .before .before .before .before .before .before .before .before .args in
-    let e = c .before .before .before .before .before .before .refusal .ensures in
-    let z = c .before .before .before .before .before .if1 .left in
-    (admitted (lent (a .connections .now) (a .leases .now) (a .allowances .now)) (a .time) (a .connection) (a .m .now) (a .random .now) (a .reply .now) (a .relay .now) _ e z, admitted-length (lent (a .connections .now) (a .leases .now) (a .allowances .now)) (a .time) (a .connection) (a .m .now) (a .random .now) (a .reply .now) (a .relay .now) _ e z, admitted-payable (lent (a .connections .now) (a .leases .now) (a .allowances .now)) (a .time) (a .connection) (a .m .now) (a .random .now) (a .reply .now) (a .relay .now) _ e z)
+    admitted (lent (a .connections .now) (a .leases .now) (a .allowances .now)) (a .time) (a .connection) (a .m .now) (a .random .now) (a .reply .now) (a .relay .now) (c .before .before .before .before .before .before .refusal .result) (c .before .before .before .before .before .before .refusal .ensures) (c .before .before .before .before .before .if1 .left)
+
+settle-requires : tie.Need-settle-requires
+settle-requires c κs =
+    let a = c .before .before .before .before .before .before .before .before .before .before .before .before .before .before .before .before .before .before .before .before .before .before .before .before .before .before .before .before .before .args in
+    let k = c .before .before .before .before .before .before .before .before .before .before .before .before .before .before .before .before .refusal .result in
+    let e = c .before .before .before .before .before .before .before .before .before .before .before .before .before .before .before .before .refusal .ensures in
+    let z = c .before .before .before .before .before .before .before .before .before .before .before .before .before .before .before .if1 .left in
+    (admitted-length (lent (a .connections .now) (a .leases .now) (a .allowances .now)) (a .time) (a .connection) (a .m .now) (a .random .now) (a .reply .now) (a .relay .now) k e z, admitted-payable (lent (a .connections .now) (a .leases .now) (a .allowances .now)) (a .time) (a .connection) (a .m .now) (a .random .now) (a .reply .now) (a .relay .now) k e z)
 
 same-length-6 : tie.Need-same-length-6
 same-length-6 c = search needs
@@ -65,10 +70,9 @@ same-length-10 : tie.Need-same-length-10
 same-length-10 c = search needs
 
 returns-2 : tie.Need-returns-2
-unfolding plan
 returns-2 c =
-    let a = c .before .before .before .before .before .before .before .before .before .before .before .before .before .before .before .before .before .before .before .before .before .before .before .before .before .before .before .before .before .before .args in
-    done-way (lent (a .connections .now) (a .leases .now) (a .allowances .now)) (message (a .time) (a .connection) (a .m .now) (a .random .now) (a .reply .now) (a .relay .now)) _ (c .before .before .before .before .before .before .before .before .before .before .before .before .before .before .before .before .before .refusal .ensures) (c .before .before .before .before .before .before .before .before .before .before .before .before .before .before .before .before .if1 .left) _ (c .before .before .before .before .before .before .before .before .before .before .accept .ensures)
+    let a = c .before .before .before .before .before .before .before .before .before .before .before .before .before .before .before .before .before .before .before .before .before .before .before .before .before .before .before .before .before .before .before .before .args in
+    message-way (lent (a .connections .now) (a .leases .now) (a .allowances .now)) (a .time) (a .connection) (a .m .now) (a .random .now) (a .reply .now) (a .relay .now) (c .before .before .before .before .before .before .before .before .before .before .before .before .before .before .before .before .before .before .before .refusal .result) (c .before .before .before .before .before .before .before .before .before .before .before .before .before .before .before .before .before .before .before .refusal .ensures) (c .before .before .before .before .before .before .before .before .before .before .before .before .before .before .before .before .before .before .if1 .left) _ _ _ _ _ (c .before .before .before .before .before .before .before .before .before .before .before .before .handle .result) (c .before .before .before .before .before .before .before .before .before .before .before .before .handle .ensures) (c .before .before .settle .ensures (a .random .now) (a .reply .now) (a .relay .now))
 
 pub crondelith-message-spec : {M : Type 1} → statement M
 crondelith-message-spec =
@@ -82,8 +86,9 @@ crondelith-message-spec =
     same-length-4
     same-length-5
     returns
-    cast-accept
-    accept-requires
+    cast-c
+    handle-requires
+    settle-requires
     same-length-6
     same-length-7
     same-length-8

@@ -2,7 +2,7 @@
 use native.Mathlib.Omega.{arith}
 use mathlib.Core.Path.{refl}
 use Rattle.svsc.specs.Messages.{ProtocolVersion, digits, encode, wellFormed}
-use Rattle.relay.proofs.Writes.{sent-length, sent-buffer}
+use Rattle.handlers.proofs.Writes.{sent-length, sent-buffer}
 use Rattle.relay.proofs.Ways.{open-done}
 use borrow.Author.Needs.{needs}
 use Rattle.relay.proofs.open.accept.Statement.{statement}

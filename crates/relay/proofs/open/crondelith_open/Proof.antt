@@ -1,9 +1,9 @@
 -- `crondelith_open`: refused, or done.
 use native.Mathlib.Omega.{arith}
+use Rattle.rules.specs.Tables.{lent}
 use Rattle.rules.specs.Calls.{opening}
 use Rattle.rules.specs.Plans.{plan}
-use Rattle.relay.specs.Results.{lent}
-use Rattle.relay.proofs.Stops.{call-known, open-known}
+use Rattle.checks.proofs.Stops.{call-known, open-known}
 use Rattle.relay.proofs.Ways.{refused-way, done-way}
 use borrow.Author.Needs.{needs}
 use Rattle.relay.proofs.open.crondelith_open.Statement.{statement}

@@ -1,0 +1,140 @@
+-- The checks of a message, and what it costs, over plain values. Assumes nothing.
+use Prim.Native.Nat.{ℕ, zero, suc, _+_, _≤_, _<_}
+use mathlib.Core.Path.{_≡_, refl, sym, _∙_}
+use mathlib.Core.Bool.{Bool, true, false, not, _&&_, _||_, false≢true}
+use mathlib.Core.Option.{Option, none, some}
+use mathlib.Core.List.{List, [], _∷_, _++_}
+use lib.Dec.{eqb, ltb}
+use lib.ListN.{length, getD, List·getD-eq-default}
+use borrow.Author.Tests.{eq-eqb, ne-eqb, lt-ltb, le-ltb, not-false}
+use Rattle.octets.specs.Octets.{byteAt}
+use Rattle.octets.proofs.Tests.{both-right}
+use Rattle.svsc.specs.Messages.{Message, typeOf, decode, isSome, fromPeer, sentByPeers, longestMessage}
+use Rattle.svsc.proofs.ReadThenWritten.{message-length}
+use Rattle.allowance.specs.Bucket.{levelNow}
+use Rattle.rules.specs.Sizes.{callCost}
+use Rattle.rules.specs.Tables.{Tables, partnerOf, state, hasSession, clock, bucketOf}
+use Rattle.rules.specs.Calls.{Call, message}
+use Rattle.rules.specs.Charges.{cost, price, callerLevel}
+use Rattle.rules.specs.Checks.{missized, untimely, unknown, misplaced, cramped, malformed, permitted, permits, forbidden, sessionless, overdrawn, pastLimit, firstEight, checks, firstApplying, check}
+use Rattle.checks.specs.Passed.{firstThree, ownChecks}
+use Rattle.checks.proofs.Stops.{stopped, passed, first-passed, others-passed}
+
+-- ---- types
+
+pub not-permitted-past : (s k : ℕ) → 14 ≤ k → false ≡ permits s k
+not-permitted-past zero k h = sym (List·getD-eq-default (getD permitted 0 []) false h)
+not-permitted-past (suc zero) k h = sym (List·getD-eq-default (getD permitted 1 []) false h)
+not-permitted-past (suc (suc zero)) k h = sym (List·getD-eq-default (getD permitted 2 []) false h)
+not-permitted-past (suc (suc (suc s))) k h = refl
+
+pub no-such-state : (s k : ℕ) → 3 ≤ s → false ≡ permits s k
+no-such-state s k h = rw (List·getD-eq-default permitted [] h)
+
+-- a message that peers send has a first byte, its type
+pub type-known : (m : List ℕ) → fromPeer m ≡ true → typeOf m ≡ byteAt m 0
+unfolding fromPeer
+type-known [] h = absurd (false≢true h)
+type-known (x ∷ xs) h = refl
+
+-- whether it is a SessionEnd shows in the first byte of any bytes
+pub ends : (m : List ℕ) → eqb (typeOf m) 9 ≡ eqb (byteAt m 0) 9
+ends [] = refl
+ends (x ∷ xs) = refl
+
+pub peer-length : (m : List ℕ) → fromPeer m ≡ true → length m ≤ longestMessage
+unfolding fromPeer
+peer-length m h = by (decode m) refl (both-right (getD sentByPeers (typeOf m) false) _ h)
+  where
+    by : (d : Option Message) → decode m ≡ d → isSome (decode m) ≡ true → length m ≤ longestMessage
+    by none e s = absurd (false≢true (rw e at s))
+    by (some x) e s = message-length m x e
+
+-- ---- checks 4 to 8
+
+module _ (cs : List ℕ) (time c : ℕ) (m random reply relay : List ℕ) (s : ℕ) (hs : s ≡ state cs c) where
+  abbrev sent : Call
+  sent = message time c m random reply relay
+
+  pub own-misplaced : s ≡ 0 → 4 ≡ ownChecks cs sent
+  unfolding ownChecks misplaced firstApplying
+  own-misplaced h = rw (← hs, eq-eqb s 0 h)
+
+  module _ (n : s ≡ 0 → ⊥) (x : Bool) (hx : x ≡ cramped sent) where
+    pub own-cramped : x ≡ true → 5 ≡ ownChecks cs sent
+    unfolding ownChecks misplaced firstApplying
+    own-cramped h = rw (← hs, ne-eqb s 0 n, ← hx, h)
+
+    module _ (nx : x ≡ false) (y : Bool) (hy : y ≡ fromPeer m) where
+      pub own-malformed : not y ≡ true → 6 ≡ ownChecks cs sent
+      unfolding ownChecks misplaced malformed firstApplying
+      own-malformed h = rw (← hs, ne-eqb s 0 n, ← hx, nx, ← hy, h)
+
+      module _ (ny : not y ≡ false) (k : ℕ) (hk : k ≡ byteAt m 0) (p : Bool) (hp : p ≡ permits s k) where
+        type-is : typeOf m ≡ k
+        type-is = type-known m (sym hy ∙ not-false y ny) ∙ sym hk
+
+        pub own-forbidden : not p ≡ true → 7 ≡ ownChecks cs sent
+        unfolding ownChecks misplaced malformed forbidden firstApplying
+        own-forbidden h = rw (← hs, ne-eqb s 0 n, ← hx, nx, ← hy, ny, type-is, ← hp, h)
+
+        module _ (np : not p ≡ false) (q : Bool) (hq : q ≡ ((eqb k 9 || eqb k 11) && not (hasSession cs c))) where
+          session-is : sessionless cs sent ≡ q
+          unfolding sessionless
+          session-is = rw type-is (sym hq)
+
+          pub own-sessionless : q ≡ true → 8 ≡ ownChecks cs sent
+          unfolding ownChecks misplaced malformed forbidden firstApplying
+          own-sessionless h = rw (← hs, ne-eqb s 0 n, ← hx, nx, ← hy, ny, type-is, ← hp, np, session-is, h)
+
+          pub own-pass : q ≡ false → 0 ≡ ownChecks cs sent
+          unfolding ownChecks misplaced malformed forbidden firstApplying
+          own-pass h = rw (← hs, ne-eqb s 0 n, ← hx, nx, ← hy, ny, type-is, ← hp, np, session-is, h)
+
+-- what five passed checks show
+pub own-peer : (cs : List ℕ) (time c : ℕ) (m random reply relay : List ℕ) (k : ℕ) → k ≡ ownChecks cs (message time c m random reply relay) → k ≡ 0 → fromPeer m ≡ true
+unfolding ownChecks malformed
+own-peer cs time c m random reply relay k e z = not-false _ (first-passed 5 _ _ (others-passed 4 _ _ (others-passed 3 _ _ (sym e ∙ z))))
+
+-- ---- all nine
+
+module _ (tables : Tables) (time c : ℕ) (m random reply relay : List ℕ) where
+  abbrev told : Call
+  told = message time c m random reply relay
+
+  five : List Bool
+  five = misplaced (tables .connections) told ∷ cramped told ∷ malformed told ∷ forbidden (tables .connections) told ∷ sessionless (tables .connections) told ∷ []
+
+  module _ (k j : ℕ) (e : k ≡ firstThree tables time c) (z : k ≡ 0) (f : j ≡ ownChecks (tables .connections) told) where
+    after-three : check tables told ≡ firstApplying 4 (five ++ (overdrawn tables told ∷ []))
+    unfolding firstThree check checks firstEight untimely five
+    after-three =
+        passed 0 (missized tables ∷ (pastLimit time || ltb time (clock (tables .allowances))) ∷ unknown told ∷ []) (five ++ (overdrawn tables told ∷ [])) k e z
+
+    pub own-stop : (j ≡ 0 → ⊥) → j ≡ check tables told
+    unfolding ownChecks five
+    own-stop h = stopped 3 five (overdrawn tables told ∷ []) j f h ∙ sym after-three
+
+    last-check : j ≡ 0 → check tables told ≡ firstApplying 9 (overdrawn tables told ∷ [])
+    unfolding ownChecks five
+    last-check y = after-three ∙ passed 3 five (overdrawn tables told ∷ []) j f y
+
+    module _ (y : j ≡ 0) (level price : ℕ) (hl : level ≡ levelNow (bucketOf (tables .allowances) (partnerOf c)) time) (hc : price ≡ cost told) where
+      pub message-overdrawn : level < price → 9 ≡ check tables told
+      unfolding firstApplying overdrawn callerLevel price
+      message-overdrawn l = sym (last-check y ∙ rw (← hl, ← hc, lt-ltb level price l))
+
+      pub message-passes : price ≤ level → 0 ≡ check tables told
+      unfolding firstApplying overdrawn callerLevel price
+      message-passes l = sym (last-check y ∙ rw (← hl, ← hc, le-ltb level price l))
+
+-- ---- costs
+
+module _ (time c : ℕ) (m random reply relay : List ℕ) (k : ℕ) (e : k ≡ byteAt m 0) where
+  pub costs-nothing : k ≡ 9 → 0 ≡ cost (message time c m random reply relay)
+  unfolding cost
+  costs-nothing h = rw (ends m, ← e, eq-eqb k 9 h)
+
+  pub costs-length : (k ≡ 9 → ⊥) → callCost + length m ≡ cost (message time c m random reply relay)
+  unfolding cost
+  costs-length h = rw (ends m, ← e, ne-eqb k 9 h)

@@ -1,0 +1,5 @@
+pub mod Writes
+pub mod Handling
+pub mod LeaseWays
+pub mod SessionWays
+pub mod Dispatch

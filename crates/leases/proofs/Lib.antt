@@ -1,0 +1,4 @@
+pub mod RowSearch
+pub mod RowWrites
+pub mod LeaseIds
+pub mod LeaseDecisions
