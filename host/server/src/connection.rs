@@ -29,7 +29,7 @@ pub struct Shared {
     pub relay: Relay,
     pub log: Log,
     pub stop: Stop,
-    /// How long a peer may leave everything unread that is sent to it.
+    /// How long a peer may leave next to everything unread that is sent to it.
     pub patience: Duration,
     /// The operating system's random bytes.
     pub random: File,
@@ -51,8 +51,9 @@ pub enum End {
     Refused(Refusal),
     /// The peer doesn't speak the relay's version.
     OtherVersion,
-    /// What is sent to it can't be written any more.
-    Unwritable,
+    /// The peer took nothing of what was sent to it for too long. What it has sent meanwhile is dropped; that of a peer
+    /// which left is not.
+    GivenUp,
     Stopped,
     Failed(io::Error),
 }
@@ -64,7 +65,7 @@ impl fmt::Display for End {
             Self::Unreadable(error) => write!(to, "closed, {error}"),
             Self::Refused(refusal) => refusal.fmt(to),
             Self::OtherVersion => write!(to, "closed, the peer doesn't accept the relay's version"),
-            Self::Unwritable => write!(to, "closed, the peer takes nothing more"),
+            Self::GivenUp => write!(to, "closed, the peer has read next to nothing for too long"),
             Self::Stopped => write!(to, "closed, the relay ends"),
             Self::Failed(error) => write!(to, "closed, {error}"),
         }
@@ -90,11 +91,7 @@ impl Connection<'_> {
 
     /// Writes the queue. If that fails the reading ends too.
     fn write(&self, stream: &TcpStream) {
-        let patience = self.shared.patience;
-        if let Err(error) = self.queue.write_to(stream, patience) {
-            if frames::is_timeout(&error) {
-                self.log(format_args!("given up, the peer has read next to nothing for {} s", patience.as_secs()));
-            }
+        if self.queue.write_to(stream, self.shared.patience).is_err() {
             let _ = stream.shutdown(Shutdown::Both);
         }
     }
@@ -120,7 +117,7 @@ impl Connection<'_> {
         let mut buffer = RelayBuffer::new(MESSAGE_LIMIT);
         loop {
             let taken = match reader.next(&mut stream) {
-                _ if self.queue.has_ended() => Err(End::Unwritable),
+                _ if self.queue.is_given_up() => Err(End::GivenUp),
                 Ok(Some(message)) => self.take(message, &mut buffer),
                 Ok(None) => Err(if self.shared.stop.is_ordered() { End::Stopped } else { End::Left }),
                 Err(error) => Err(End::Unreadable(error)),
@@ -175,8 +172,8 @@ impl Connection<'_> {
             if self.shared.stop.wait(self.shared.relay.clock().until_next()) {
                 return Err(End::Stopped);
             }
-            if self.queue.has_ended() {
-                return Err(End::Unwritable);
+            if self.queue.is_given_up() {
+                return Err(End::GivenUp);
             }
         }
     }

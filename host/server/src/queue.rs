@@ -28,6 +28,8 @@ struct State {
     /// Bytes that have been taken and may not be written yet.
     taken: usize,
     ended: bool,
+    /// Its peer took nothing for too long.
+    given_up: bool,
 }
 
 impl Queue {
@@ -47,9 +49,9 @@ impl Queue {
         drop(wait_while(&self.changed, lock(&self.state), is_full));
     }
 
-    /// Whether nothing is added any more; before [`Queue::end`], because it can't be written.
-    pub fn has_ended(&self) -> bool {
-        lock(&self.state).ended
+    /// Whether its peer took nothing for too long.
+    pub fn is_given_up(&self) -> bool {
+        lock(&self.state).given_up
     }
 
     /// Nothing is added any more. What waits is still written.
@@ -65,7 +67,7 @@ impl Queue {
         let mut bytes = Vec::new();
         while self.take(&mut bytes) {
             if let Err(error) = stream.write_all(&bytes) {
-                self.abandon();
+                self.abandon(frames::is_timeout(&error));
                 return Err(error);
             }
         }
@@ -84,8 +86,8 @@ impl Queue {
         !bytes.is_empty()
     }
 
-    fn abandon(&self) {
-        *lock(&self.state) = State { ended: true, ..State::default() };
+    fn abandon(&self, given_up: bool) {
+        *lock(&self.state) = State { ended: true, given_up, ..State::default() };
         self.changed.notify_all();
     }
 }

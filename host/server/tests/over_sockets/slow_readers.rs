@@ -51,7 +51,7 @@ fn a_peer_that_reads_nothing_is_given_up_and_its_sender_goes_on() {
     for _ in 0..400 {
         caller.send_bytes(&frame);
     }
-    relay.await_line("partner 0, connection 1: given up, the peer has read next to nothing for 1 s");
+    relay.await_line("partner 0, connection 1: closed, the peer has read next to nothing for too long");
     assert_eq!(caller.receive(), encode(&Message::SessionEndNotification));
     assert!(caller.lease() < 1 << 26);
 }
