@@ -119,8 +119,8 @@ fn a_file_that_is_there_is_not_replaced() {
 
 /// Sends a signal, as a user does.
 fn signal(child: &Child, name: &str) {
-    let sent = Command::new("kill").args([&format!("-{name}"), &child.id().to_string()]).status();
-    assert!(sent.expect("kill runs").success());
+    let sent = Command::new("sh").args(["-c", &format!("kill -{name} {}", child.id())]).status();
+    assert!(sent.expect("a shell").success());
 }
 
 /// A relay that serves, ended with the test.
@@ -206,7 +206,7 @@ fn a_file_goes_through_the_relay_and_the_interrupt_ends_it() {
 
     fs::write(&copy, "an old one").expect("a file");
     let (receiver, id) = relay.receiver(&copy, &["--force"]);
-    let options = ["--relay", "localhost", "--message-size", "1000"];
+    let options = ["--relay", "127.0.0.1", "--message-size", "1000"];
     let arguments = [&["send", &id, original.to_str().expect("a path")][..], &options].concat();
     let sender = relay.peer(&arguments).output().expect("a run");
     assert_eq!(sender.status.code(), Some(0), "{}", stderr(&sender));
@@ -216,6 +216,10 @@ fn a_file_goes_through_the_relay_and_the_interrupt_ends_it() {
 
     let wrong = relay.peer(&["send", "67108863", original.to_str().expect("a path")]).output().expect("a run");
     assert_eq!(wrong.status.code(), Some(1), "an id that nobody has: {}", stderr(&wrong));
+    let elsewhere = relay.peer(&["send", "5", original.to_str().expect("a path"), "--relay", "127.0.0.2"]).output();
+    let elsewhere = elsewhere.expect("a run");
+    assert_eq!(elsewhere.status.code(), Some(1));
+    assert!(stderr(&elsewhere).contains("127.0.0.2"), "{}", stderr(&elsewhere));
     signal(&relay.child, "INT");
     let (status, log) = relay.await_end();
     assert_eq!(status, Some(0));
