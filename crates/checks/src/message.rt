@@ -134,7 +134,7 @@ fn own_refusal(
     0
 }
 
-// What a message costs: nothing, if it ends a session.
+// What a message costs: nothing, if it ends a session. Of a message that passed check 6, whose length is bounded, so that the sum is too.
 pub fn cost(m: &[u8]) -> u64
     requires { ⌜ length (now m) ≤ longestMessage ⌝ }
     ensures { λ r. ⌜ ((time c : ℕ) (random reply relay : List ℕ) → r ≡ cost (message time c (now (m .entry)) random reply relay)) ⌝ }

@@ -1,4 +1,5 @@
-// What a message asks for, carried out: each handler decides on what it is lent, then writes.
+// What a message asks for, carried out: each handler decides on what it is lent, then writes. What a handler requires (sizes, numbers in
+// range, room in the buffers) is what the checks have shown; no answer would serve where they fail.
 pub mod answers; // what a call answers
 pub mod sessions; // the version answer, data, and the end of a session
 pub mod leasing; // leases requested and extended

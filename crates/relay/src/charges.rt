@@ -4,7 +4,7 @@ ghost use Rattle.allowance.specs.Bucket.{spend};
 ghost use Rattle.rules.specs.Tables.{partnerOf, bucketOf, setBucket, setClock};
 ghost use Rattle.checks.specs.Passed.{Payable};
 
-// Takes the cost from what the connection's partner has, and sets the clock.
+// Takes the cost from what the connection's partner has, and sets the clock. That it has as much is what check 9 has shown.
 pub fn pay(allowances: &mut [u8], time: u64, c: u8, cost: u64)
     requires { ⌜ Payable (now allowances) time c cost ⌝ }
     ensures { λ _. ⌜ now (allowances .exit)

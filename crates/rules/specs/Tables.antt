@@ -16,6 +16,7 @@ pub record Tables : Type 0 where
   pub leases : List ℕ
   pub allowances : List ℕ
 
+-- the three tables as a call is lent them
 abbrev pub lent : List ℕ → List ℕ → List ℕ → Tables
 lent cs ls al = record { connections = cs; leases = ls; allowances = al }
 

@@ -2,7 +2,8 @@
 
 use std::ops::{Deref, DerefMut};
 
-/// What the engine's copy stores at a time. Stores that cross these places make a long copy slower by a third.
+/// What the engine's copy stores at a time. Measured, a long copy to a multiple of it takes about as long as a plain one,
+/// and up to 1.4 times as long elsewhere.
 const STEP: usize = 16;
 
 /// A buffer to lend for what is relayed: its second byte, where a message's data begins, is at a multiple of the step.
