@@ -16,7 +16,7 @@ use Rattle.rules.specs.Sizes.{callCost}
 use Rattle.rules.specs.Tables.{Tables, partnerOf, state, hasSession, clock, bucketOf}
 use Rattle.rules.specs.Calls.{Call, message}
 use Rattle.rules.specs.Charges.{cost, price, callerLevel}
-use Rattle.rules.specs.Checks.{missized, untimely, unknown, misplaced, cramped, malformed, permitted, permits, forbidden, sessionless, overdrawn, pastLimit, firstEight, checks, firstApplying, check}
+use Rattle.rules.specs.Checks.{wrongSize, wrongTime, unknownConnection, wrongState, wrongLengths, notFromPeer, permitted, permits, notPermitted, noSession, aboveLevel, pastLimit, firstEight, checks, firstApplying, check}
 use Rattle.checks.specs.Passed.{firstThree, ownChecks}
 use Rattle.checks.proofs.Stops.{stopped, passed, first-passed, others-passed}
 
@@ -56,44 +56,44 @@ module _ (cs : List ℕ) (time c : ℕ) (m random reply relay : List ℕ) (s : �
   abbrev sent : Call
   sent = message time c m random reply relay
 
-  pub own-misplaced : s ≡ 0 → 4 ≡ ownChecks cs sent
-  unfolding ownChecks misplaced firstApplying
-  own-misplaced h = rw (← hs, eq-eqb s 0 h)
+  pub own-wrong-state : s ≡ 0 → 4 ≡ ownChecks cs sent
+  unfolding ownChecks wrongState firstApplying
+  own-wrong-state h = rw (← hs, eq-eqb s 0 h)
 
-  module _ (n : s ≡ 0 → ⊥) (x : Bool) (hx : x ≡ cramped sent) where
-    pub own-cramped : x ≡ true → 5 ≡ ownChecks cs sent
-    unfolding ownChecks misplaced firstApplying
-    own-cramped h = rw (← hs, ne-eqb s 0 n, ← hx, h)
+  module _ (n : s ≡ 0 → ⊥) (x : Bool) (hx : x ≡ wrongLengths sent) where
+    pub own-wrong-lengths : x ≡ true → 5 ≡ ownChecks cs sent
+    unfolding ownChecks wrongState firstApplying
+    own-wrong-lengths h = rw (← hs, ne-eqb s 0 n, ← hx, h)
 
     module _ (nx : x ≡ false) (y : Bool) (hy : y ≡ fromPeer m) where
-      pub own-malformed : not y ≡ true → 6 ≡ ownChecks cs sent
-      unfolding ownChecks misplaced malformed firstApplying
-      own-malformed h = rw (← hs, ne-eqb s 0 n, ← hx, nx, ← hy, h)
+      pub own-not-from-peer : not y ≡ true → 6 ≡ ownChecks cs sent
+      unfolding ownChecks wrongState notFromPeer firstApplying
+      own-not-from-peer h = rw (← hs, ne-eqb s 0 n, ← hx, nx, ← hy, h)
 
       module _ (ny : not y ≡ false) (k : ℕ) (hk : k ≡ byteAt m 0) (p : Bool) (hp : p ≡ permits s k) where
         type-is : typeOf m ≡ k
         type-is = type-known m (sym hy ∙ not-false y ny) ∙ sym hk
 
-        pub own-forbidden : not p ≡ true → 7 ≡ ownChecks cs sent
-        unfolding ownChecks misplaced malformed forbidden firstApplying
-        own-forbidden h = rw (← hs, ne-eqb s 0 n, ← hx, nx, ← hy, ny, type-is, ← hp, h)
+        pub own-not-permitted : not p ≡ true → 7 ≡ ownChecks cs sent
+        unfolding ownChecks wrongState notFromPeer notPermitted firstApplying
+        own-not-permitted h = rw (← hs, ne-eqb s 0 n, ← hx, nx, ← hy, ny, type-is, ← hp, h)
 
         module _ (np : not p ≡ false) (q : Bool) (hq : q ≡ ((eqb k 9 || eqb k 11) && not (hasSession cs c))) where
-          session-is : sessionless cs sent ≡ q
-          unfolding sessionless
+          session-is : noSession cs sent ≡ q
+          unfolding noSession
           session-is = rw type-is (sym hq)
 
-          pub own-sessionless : q ≡ true → 8 ≡ ownChecks cs sent
-          unfolding ownChecks misplaced malformed forbidden firstApplying
-          own-sessionless h = rw (← hs, ne-eqb s 0 n, ← hx, nx, ← hy, ny, type-is, ← hp, np, session-is, h)
+          pub own-no-session : q ≡ true → 8 ≡ ownChecks cs sent
+          unfolding ownChecks wrongState notFromPeer notPermitted firstApplying
+          own-no-session h = rw (← hs, ne-eqb s 0 n, ← hx, nx, ← hy, ny, type-is, ← hp, np, session-is, h)
 
           pub own-pass : q ≡ false → 0 ≡ ownChecks cs sent
-          unfolding ownChecks misplaced malformed forbidden firstApplying
+          unfolding ownChecks wrongState notFromPeer notPermitted firstApplying
           own-pass h = rw (← hs, ne-eqb s 0 n, ← hx, nx, ← hy, ny, type-is, ← hp, np, session-is, h)
 
 -- what five passed checks show
 pub own-peer : (cs : List ℕ) (time c : ℕ) (m random reply relay : List ℕ) (k : ℕ) → k ≡ ownChecks cs (message time c m random reply relay) → k ≡ 0 → fromPeer m ≡ true
-unfolding ownChecks malformed
+unfolding ownChecks notFromPeer
 own-peer cs time c m random reply relay k e z = not-false _ (first-passed 5 _ _ (others-passed 4 _ _ (others-passed 3 _ _ (sym e ∙ z))))
 
 -- ---- all nine
@@ -103,29 +103,29 @@ module _ (tables : Tables) (time c : ℕ) (m random reply relay : List ℕ) wher
   told = message time c m random reply relay
 
   five : List Bool
-  five = misplaced (tables .connections) told ∷ cramped told ∷ malformed told ∷ forbidden (tables .connections) told ∷ sessionless (tables .connections) told ∷ []
+  five = wrongState (tables .connections) told ∷ wrongLengths told ∷ notFromPeer told ∷ notPermitted (tables .connections) told ∷ noSession (tables .connections) told ∷ []
 
   module _ (k j : ℕ) (e : k ≡ firstThree tables time c) (z : k ≡ 0) (f : j ≡ ownChecks (tables .connections) told) where
-    after-three : check tables told ≡ firstApplying 4 (five ++ (overdrawn tables told ∷ []))
-    unfolding firstThree check checks firstEight untimely five
+    after-three : check tables told ≡ firstApplying 4 (five ++ (aboveLevel tables told ∷ []))
+    unfolding firstThree check checks firstEight wrongTime five
     after-three =
-        passed 0 (missized tables ∷ (pastLimit time || ltb time (clock (tables .allowances))) ∷ unknown told ∷ []) (five ++ (overdrawn tables told ∷ [])) k e z
+        passed 0 (wrongSize tables ∷ (pastLimit time || ltb time (clock (tables .allowances))) ∷ unknownConnection told ∷ []) (five ++ (aboveLevel tables told ∷ [])) k e z
 
     pub own-stop : (j ≡ 0 → ⊥) → j ≡ check tables told
     unfolding ownChecks five
-    own-stop h = stopped 3 five (overdrawn tables told ∷ []) j f h ∙ sym after-three
+    own-stop h = stopped 3 five (aboveLevel tables told ∷ []) j f h ∙ sym after-three
 
-    last-check : j ≡ 0 → check tables told ≡ firstApplying 9 (overdrawn tables told ∷ [])
+    last-check : j ≡ 0 → check tables told ≡ firstApplying 9 (aboveLevel tables told ∷ [])
     unfolding ownChecks five
-    last-check y = after-three ∙ passed 3 five (overdrawn tables told ∷ []) j f y
+    last-check y = after-three ∙ passed 3 five (aboveLevel tables told ∷ []) j f y
 
     module _ (y : j ≡ 0) (level price : ℕ) (hl : level ≡ levelNow (bucketOf (tables .allowances) (partnerOf c)) time) (hc : price ≡ cost told) where
-      pub message-overdrawn : level < price → 9 ≡ check tables told
-      unfolding firstApplying overdrawn callerLevel price
-      message-overdrawn l = sym (last-check y ∙ rw (← hl, ← hc, lt-ltb level price l))
+      pub message-above-level : level < price → 9 ≡ check tables told
+      unfolding firstApplying aboveLevel callerLevel price
+      message-above-level l = sym (last-check y ∙ rw (← hl, ← hc, lt-ltb level price l))
 
       pub message-passes : price ≤ level → 0 ≡ check tables told
-      unfolding firstApplying overdrawn callerLevel price
+      unfolding firstApplying aboveLevel callerLevel price
       message-passes l = sym (last-check y ∙ rw (← hl, ← hc, le-ltb level price l))
 
 -- ---- costs

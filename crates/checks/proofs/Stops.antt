@@ -14,7 +14,7 @@ use Rattle.rules.specs.Tables.{Tables, partnerOf, state, sized, bucketOf, clock
 use Rattle.allowance.specs.Bucket.{levelNow}
 use Rattle.rules.specs.Calls.{Call, opening, closing, timeOf, connectionOf}
 use Rattle.rules.specs.Charges.{cost, price, callerLevel}
-use Rattle.rules.specs.Checks.{missized, unknown, untimely, misplaced, cramped, malformed, forbidden, sessionless, overdrawn, pastLimit, firstApplying, firstEight, checks, check, checkStart}
+use Rattle.rules.specs.Checks.{wrongSize, unknownConnection, wrongTime, wrongState, wrongLengths, notFromPeer, notPermitted, noSession, aboveLevel, pastLimit, firstApplying, firstEight, checks, check, checkStart}
 use Rattle.checks.specs.Passed.{firstThree, Sized, Payable}
 
 -- ---- a list in two parts
@@ -102,26 +102,26 @@ start-sized tables time k e z = sizes-known tables (not-false _ (first-passed 0 
 
 others : Tables → Call → List Bool
 others tables call =
-    misplaced (tables .connections) call
-    ∷ cramped call
-    ∷ malformed call
-    ∷ forbidden (tables .connections) call
-    ∷ sessionless (tables .connections) call
-    ∷ overdrawn tables call
+    wrongState (tables .connections) call
+    ∷ wrongLengths call
+    ∷ notFromPeer call
+    ∷ notPermitted (tables .connections) call
+    ∷ noSession (tables .connections) call
+    ∷ aboveLevel tables call
     ∷ []
 
 module _ (tables : Tables) (call : Call) (k : ℕ) (e : k ≡ firstThree tables (timeOf call) (connectionOf call)) where
   pub three-stop : (k ≡ 0 → ⊥) → k ≡ check tables call
-  unfolding firstThree check checks firstEight untimely others
-  three-stop h = stopped 0 (missized tables ∷ untimely (tables .allowances) call ∷ unknown call ∷ []) (others tables call) k e h
+  unfolding firstThree check checks firstEight wrongTime others
+  three-stop h = stopped 0 (wrongSize tables ∷ wrongTime (tables .allowances) call ∷ unknownConnection call ∷ []) (others tables call) k e h
 
   three-go : k ≡ 0 → check tables call ≡ firstApplying 4 (others tables call)
-  unfolding firstThree check checks firstEight untimely others
-  three-go z = passed 0 (missized tables ∷ untimely (tables .allowances) call ∷ unknown call ∷ []) (others tables call) k e z
+  unfolding firstThree check checks firstEight wrongTime others
+  three-go z = passed 0 (wrongSize tables ∷ wrongTime (tables .allowances) call ∷ unknownConnection call ∷ []) (others tables call) k e z
 
 -- what passed checks show of any call
 module _ (tables : Tables) (call : Call) (k : ℕ) (e : k ≡ check tables call) (z : k ≡ 0) where
-  all-passed : firstApplying 1 (missized tables ∷ untimely (tables .allowances) call ∷ unknown call ∷ others tables call) ≡ 0
+  all-passed : firstApplying 1 (wrongSize tables ∷ wrongTime (tables .allowances) call ∷ unknownConnection call ∷ others tables call) ≡ 0
   unfolding check checks firstEight others
   all-passed = sym e ∙ z
 
@@ -132,34 +132,34 @@ module _ (tables : Tables) (call : Call) (k : ℕ) (e : k ≡ check tables call)
   call-known = leb-false _ _ (first-passed 2 _ _ (others-passed 1 _ _ (others-passed 0 _ _ all-passed)))
 
   pub call-timely : timeOf call < timeLimit
-  unfolding untimely
+  unfolding wrongTime
   call-timely = leb-false _ _ (either-false _ _ (first-passed 1 _ _ (others-passed 0 _ _ all-passed)) .0)
 
   from-fourth : firstApplying 4 (others tables call) ≡ 0
   from-fourth = others-passed 2 _ _ (others-passed 1 _ _ (others-passed 0 _ _ all-passed))
 
-  pub not-misplaced : misplaced (tables .connections) call ≡ false
+  pub right-state : wrongState (tables .connections) call ≡ false
   unfolding others
-  not-misplaced = first-passed 3 _ _ from-fourth
+  right-state = first-passed 3 _ _ from-fourth
 
-  pub not-cramped : cramped call ≡ false
+  pub right-lengths : wrongLengths call ≡ false
   unfolding others
-  not-cramped = first-passed 4 _ _ (others-passed 3 _ _ from-fourth)
+  right-lengths = first-passed 4 _ _ (others-passed 3 _ _ from-fourth)
 
-  pub not-malformed : malformed call ≡ false
+  pub sent-by-peer : notFromPeer call ≡ false
   unfolding others
-  not-malformed = first-passed 5 _ _ (others-passed 4 _ _ (others-passed 3 _ _ from-fourth))
+  sent-by-peer = first-passed 5 _ _ (others-passed 4 _ _ (others-passed 3 _ _ from-fourth))
 
-  pub not-forbidden : forbidden (tables .connections) call ≡ false
+  pub is-allowed : notPermitted (tables .connections) call ≡ false
   unfolding others
-  not-forbidden = first-passed 6 _ _ (others-passed 5 _ _ (others-passed 4 _ _ (others-passed 3 _ _ from-fourth)))
+  is-allowed = first-passed 6 _ _ (others-passed 5 _ _ (others-passed 4 _ _ (others-passed 3 _ _ from-fourth)))
 
-  pub not-sessionless : sessionless (tables .connections) call ≡ false
+  pub session-there : noSession (tables .connections) call ≡ false
   unfolding others
-  not-sessionless = first-passed 7 _ _ (others-passed 6 _ _ (others-passed 5 _ _ (others-passed 4 _ _ (others-passed 3 _ _ from-fourth))))
+  session-there = first-passed 7 _ _ (others-passed 6 _ _ (others-passed 5 _ _ (others-passed 4 _ _ (others-passed 3 _ _ from-fourth))))
 
   pub payable : Payable (tables .allowances) (timeOf call) (connectionOf call) (price tables call)
-  unfolding others overdrawn callerLevel
+  unfolding others aboveLevel callerLevel
   payable = record {
     size = call-sized .allowances;
     known = call-known;
@@ -172,30 +172,30 @@ module _ (tables : Tables) (call : Call) (k : ℕ) (e : k ≡ check tables call)
 
 pub open-known : (tables : Tables) (time c : ℕ) (reply : List ℕ) (k : ℕ) → k ≡ check tables (opening time c reply) → k ≡ 0
     → (Payable (tables .allowances) time c callCost) × (leastBuffer ≤ length reply)
-unfolding price cost cramped
+unfolding price cost wrongLengths
 open-known tables time c reply k e z =
-    (payable tables (opening time c reply) k e z, ltb-false _ _ (not-cramped tables (opening time c reply) k e z))
+    (payable tables (opening time c reply) k e z, ltb-false _ _ (right-lengths tables (opening time c reply) k e z))
 
 module _ (tables : Tables) (time c : ℕ) (reply : List ℕ) (k s : ℕ) (e : k ≡ firstThree tables time c) (z : k ≡ 0) (hs : s ≡ state (tables .connections) c) where
   go : check tables (opening time c reply)
       ≡ firstApplying 4
       (not (eqb s 0) ∷ ltb (length reply) leastBuffer ∷ false ∷ false ∷ false ∷ ltb (levelNow (bucketOf (tables .allowances) (partnerOf c)) time) callCost ∷ [])
-  unfolding others misplaced cramped malformed forbidden sessionless overdrawn callerLevel price cost
+  unfolding others wrongState wrongLengths notFromPeer notPermitted noSession aboveLevel callerLevel price cost
   go = rw hs (three-go tables (opening time c reply) k e z)
 
-  pub open-misplaced : (s ≡ 0 → ⊥) → 4 ≡ check tables (opening time c reply)
+  pub open-wrong-state : (s ≡ 0 → ⊥) → 4 ≡ check tables (opening time c reply)
   unfolding firstApplying
-  open-misplaced h = sym (go ∙ rw (ne-eqb s 0 h))
+  open-wrong-state h = sym (go ∙ rw (ne-eqb s 0 h))
 
   module _ (h : s ≡ 0) where
-    pub open-cramped : length reply < leastBuffer → 5 ≡ check tables (opening time c reply)
+    pub open-wrong-lengths : length reply < leastBuffer → 5 ≡ check tables (opening time c reply)
     unfolding firstApplying
-    open-cramped l = sym (go ∙ rw (eq-eqb s 0 h, lt-ltb (length reply) leastBuffer l))
+    open-wrong-lengths l = sym (go ∙ rw (eq-eqb s 0 h, lt-ltb (length reply) leastBuffer l))
 
     module _ (l : leastBuffer ≤ length reply) (level : ℕ) (hl : level ≡ levelNow (bucketOf (tables .allowances) (partnerOf c)) time) where
-      pub open-overdrawn : level < callCost → 9 ≡ check tables (opening time c reply)
+      pub open-above-level : level < callCost → 9 ≡ check tables (opening time c reply)
       unfolding firstApplying
-      open-overdrawn p = sym (go ∙ rw (eq-eqb s 0 h, le-ltb (length reply) leastBuffer l, ← hl, lt-ltb level callCost p))
+      open-above-level p = sym (go ∙ rw (eq-eqb s 0 h, le-ltb (length reply) leastBuffer l, ← hl, lt-ltb level callCost p))
 
       pub open-passes : callCost ≤ level → 0 ≡ check tables (opening time c reply)
       unfolding firstApplying
@@ -205,26 +205,26 @@ module _ (tables : Tables) (time c : ℕ) (reply : List ℕ) (k s : ℕ) (e : k 
 
 pub close-known : (tables : Tables) (time c : ℕ) (relay : List ℕ) (k : ℕ) → k ≡ check tables (closing time c relay) → k ≡ 0
     → (c < connectionCount) × (leastBuffer ≤ length relay)
-unfolding cramped
+unfolding wrongLengths
 close-known tables time c relay k e z =
-    (call-known tables (closing time c relay) k e z, ltb-false _ _ (not-cramped tables (closing time c relay) k e z))
+    (call-known tables (closing time c relay) k e z, ltb-false _ _ (right-lengths tables (closing time c relay) k e z))
 
 module _ (tables : Tables) (time c : ℕ) (relay : List ℕ) (k s : ℕ) (e : k ≡ firstThree tables time c) (z : k ≡ 0) (hs : s ≡ state (tables .connections) c) where
   -- check 9 compares with nothing
   close-go : check tables (closing time c relay)
       ≡ firstApplying 4
       (eqb s 0 ∷ ltb (length relay) leastBuffer ∷ false ∷ false ∷ false ∷ ltb (levelNow (bucketOf (tables .allowances) (partnerOf c)) time) 0 ∷ [])
-  unfolding others misplaced cramped malformed forbidden sessionless overdrawn callerLevel price cost
+  unfolding others wrongState wrongLengths notFromPeer notPermitted noSession aboveLevel callerLevel price cost
   close-go = rw hs (three-go tables (closing time c relay) k e z)
 
-  pub close-misplaced : s ≡ 0 → 4 ≡ check tables (closing time c relay)
+  pub close-wrong-state : s ≡ 0 → 4 ≡ check tables (closing time c relay)
   unfolding firstApplying
-  close-misplaced h = sym (close-go ∙ rw (eq-eqb s 0 h))
+  close-wrong-state h = sym (close-go ∙ rw (eq-eqb s 0 h))
 
   module _ (h : s ≡ 0 → ⊥) where
-    pub close-cramped : length relay < leastBuffer → 5 ≡ check tables (closing time c relay)
+    pub close-wrong-lengths : length relay < leastBuffer → 5 ≡ check tables (closing time c relay)
     unfolding firstApplying
-    close-cramped l = sym (close-go ∙ rw (ne-eqb s 0 h, lt-ltb (length relay) leastBuffer l))
+    close-wrong-lengths l = sym (close-go ∙ rw (ne-eqb s 0 h, lt-ltb (length relay) leastBuffer l))
 
     pub close-passes : leastBuffer ≤ length relay → 0 ≡ check tables (closing time c relay)
     unfolding firstApplying

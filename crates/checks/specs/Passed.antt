@@ -9,16 +9,16 @@ use Rattle.allowance.specs.Bucket.{levelNow}
 use Rattle.rules.specs.Sizes.{connectionCount, connectionsSize, leasesSize, allowancesSize}
 use Rattle.rules.specs.Tables.{Tables, partnerOf, bucketOf, clock}
 use Rattle.rules.specs.Calls.{Call}
-use Rattle.rules.specs.Checks.{missized, pastLimit, misplaced, cramped, malformed, forbidden, sessionless, firstApplying}
+use Rattle.rules.specs.Checks.{wrongSize, pastLimit, wrongState, wrongLengths, notFromPeer, notPermitted, noSession, firstApplying}
 
 -- checks 1 to 3, which every call on a connection has
 unfoldable pub firstThree : Tables → ℕ → ℕ → ℕ
 firstThree tables time c =
-    firstApplying 1 (missized tables ∷ (pastLimit time || ltb time (clock (tables .allowances))) ∷ leb connectionCount c ∷ [])
+    firstApplying 1 (wrongSize tables ∷ (pastLimit time || ltb time (clock (tables .allowances))) ∷ leb connectionCount c ∷ [])
 
 -- checks 4 to 8
 unfoldable pub ownChecks : List ℕ → Call → ℕ
-ownChecks cs call = firstApplying 4 (misplaced cs call ∷ cramped call ∷ malformed call ∷ forbidden cs call ∷ sessionless cs call ∷ [])
+ownChecks cs call = firstApplying 4 (wrongState cs call ∷ wrongLengths call ∷ notFromPeer call ∷ notPermitted cs call ∷ noSession cs call ∷ [])
 
 pub record Sized (tables : Tables) : Type 0 where
   pub connections : length (tables .connections) ≡ connectionsSize

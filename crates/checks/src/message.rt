@@ -9,7 +9,7 @@ ghost use Rattle.svsc.specs.Messages.{longestMessage};
 ghost use Rattle.rules.specs.Tables.{lent, hasSession};
 ghost use Rattle.rules.specs.Calls.{message};
 ghost use Rattle.rules.specs.Charges.{cost};
-ghost use Rattle.rules.specs.Checks.{cramped, permits, check};
+ghost use Rattle.rules.specs.Checks.{wrongLengths, permits, check};
 ghost use Rattle.checks.specs.Passed.{ownChecks};
 
 fn larger(a: usize, b: usize) -> usize
@@ -18,8 +18,8 @@ fn larger(a: usize, b: usize) -> usize
     if a < b { b } else { a }
 }
 
-fn is_cramped(m: &[u8], random: &[u8], reply: &[u8], relay: &[u8]) -> bool
-    ensures { λ r. ⌜ ((time c : ℕ) → r ≡ cramped (message time c (now (m .entry)) (now (random .entry)) (now (reply .entry))
+fn are_wrong_lengths(m: &[u8], random: &[u8], reply: &[u8], relay: &[u8]) -> bool
+    ensures { λ r. ⌜ ((time c : ℕ) → r ≡ wrongLengths (message time c (now (m .entry)) (now (random .entry)) (now (reply .entry))
         (now (relay .entry)))) ⌝ }
 {
     let least = larger(rules::LEAST_BUFFER, m.len());
@@ -93,7 +93,7 @@ fn is_permitted(state: u8, kind: u8) -> bool
     false
 }
 
-fn is_sessionless(connections: &[u8], c: u8, kind: u8) -> bool
+fn has_no_session(connections: &[u8], c: u8, kind: u8) -> bool
     ensures { λ r. ⌜ r ≡ ((eqb kind 9 || eqb kind 11) && not (hasSession (now (connections .entry)) c)) ⌝ }
 {
     if (kind == 9) | (kind == 11) {
@@ -118,7 +118,7 @@ fn own_refusal(
     if state == rules::CLOSED {
         return 4;
     }
-    if is_cramped(m, random, reply, relay) {
+    if are_wrong_lengths(m, random, reply, relay) {
         return 5;
     }
     if !svsc_reader::messages::from_peer(m) {
@@ -128,7 +128,7 @@ fn own_refusal(
     if !is_permitted(state, kind) {
         return 7;
     }
-    if is_sessionless(connections, c, kind) {
+    if has_no_session(connections, c, kind) {
         return 8;
     }
     0

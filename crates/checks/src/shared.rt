@@ -17,7 +17,7 @@ pub fn sized(connections: &[u8], leases: &[u8], allowances: &[u8]) -> bool
         & (allowances.len() == rules::ALLOWANCES_SIZE)
 }
 
-fn untimely(allowances: &[u8], time: u64) -> bool
+fn is_wrong_time(allowances: &[u8], time: u64) -> bool
     requires { ⌜ length (now allowances) ≡ allowancesSize ⌝ }
     ensures { λ r. ⌜ r ≡ (pastLimit time || ltb time (clock (now (allowances .entry)))) ⌝ }
 {
@@ -38,7 +38,7 @@ pub fn first_three(
     if !sized(connections, leases, allowances) {
         return 1;
     }
-    if untimely(allowances, time) {
+    if is_wrong_time(allowances, time) {
         return 2;
     }
     if rules::CONNECTION_COUNT as u64 <= connection {

@@ -11,24 +11,24 @@ use Rattle.octets.proofs.Tests.{both-left}
 use Rattle.svsc.specs.Messages.{SessionEndNotification, DataReceive, longestMessage, encode}
 use Rattle.rules.specs.Tables.{lent, opened, peer, hasSession, setState}
 use Rattle.rules.specs.Sessions.{clear, endSession}
-use Rattle.rules.specs.Calls.{refusal}
+use Rattle.rules.specs.Calls.{sentNothing}
 use Rattle.rules.specs.Plans.{planVersionAnswer, planEnd, planData, doNothing}
 use Rattle.handlers.specs.declared.Answer.{Answer}
-use Rattle.handlers.specs.Applied.{Handled, handled, applied, coded, relaying, disconnecting}
+use Rattle.handlers.specs.Applied.{Handled, handled, applied, coded, relayed, disconnected}
 
 module _ (cs ls al reply relay : List ℕ) (c : ℕ) where
-  pub nothing-done : (r : Answer) → r ≡ coded (refusal 0) → handled r cs ls reply relay ≡ applied (doNothing (lent cs ls al)) reply relay
+  pub nothing-done : (r : Answer) → r ≡ coded (sentNothing 0) → handled r cs ls reply relay ≡ applied (doNothing (lent cs ls al)) reply relay
   unfolding applied put
   nothing-done r a = rw a
 
   -- ---- the version answer
 
-  pub version-taken : (ok : ℕ) (r : Answer) (cs′ : List ℕ) → ok ≡ 1 → r ≡ coded (refusal 0) → cs′ ≡ setState cs c opened
+  pub version-taken : (ok : ℕ) (r : Answer) (cs′ : List ℕ) → ok ≡ 1 → r ≡ coded (sentNothing 0) → cs′ ≡ setState cs c opened
       → handled r cs′ ls reply relay ≡ applied (planVersionAnswer (lent cs ls al) c ok) reply relay
   unfolding applied planVersionAnswer put
   version-taken ok r cs′ h a e = rw (a, e, h)
 
-  pub version-refused : (ok : ℕ) (r : Answer) (cs′ : List ℕ) → (ok ≡ 1 → ⊥) → r ≡ coded disconnecting → cs′ ≡ clear cs c
+  pub version-refused : (ok : ℕ) (r : Answer) (cs′ : List ℕ) → (ok ≡ 1 → ⊥) → r ≡ coded disconnected → cs′ ≡ clear cs c
       → handled r cs′ ls reply relay ≡ applied (planVersionAnswer (lent cs ls al) c ok) reply relay
   unfolding applied planVersionAnswer put
   version-refused ok r cs′ h a e = rw (a, e, ne-eqb ok 1 h)
@@ -36,7 +36,7 @@ module _ (cs ls al reply relay : List ℕ) (c : ℕ) where
   -- ---- the end of a session, and data
 
   pub ended : (d n : ℕ) (r : Answer) (cs′ relay′ : List ℕ) → d ≡ peer cs c → cs′ ≡ endSession cs c d → n ≡ length (encode SessionEndNotification)
-      → relay′ ≡ put relay 0 (encode SessionEndNotification) → r ≡ coded (relaying n d) → handled r cs′ ls reply relay′ ≡ applied (planEnd (lent cs ls al) c) reply relay
+      → relay′ ≡ put relay 0 (encode SessionEndNotification) → r ≡ coded (relayed n d) → handled r cs′ ls reply relay′ ≡ applied (planEnd (lent cs ls al) c) reply relay
   unfolding applied planEnd put
   ended d n r cs′ relay′ hd e hn hr a = rw (a, e, hr, hn, hd)
 
@@ -44,12 +44,12 @@ module _ (cs ls al reply relay : List ℕ) (c : ℕ) where
       → x ≡ applied (if hasSession cs c then planEnd (lent cs ls al) c else doNothing (lent cs ls al)) reply relay
   ended-if-any s x e h f = rw (← e, h) f
 
-  pub ended-if-none : (s : Bool) (r : Answer) → s ≡ hasSession cs c → s ≡ false → r ≡ coded (refusal 0)
+  pub ended-if-none : (s : Bool) (r : Answer) → s ≡ hasSession cs c → s ≡ false → r ≡ coded (sentNothing 0)
       → handled r cs ls reply relay ≡ applied (if hasSession cs c then planEnd (lent cs ls al) c else doNothing (lent cs ls al)) reply relay
   ended-if-none s r e h a = rw (← e, h) (nothing-done r a)
 
   pub sent-on : (d n : ℕ) (bytes : List ℕ) (r : Answer) (relay′ : List ℕ) → d ≡ peer cs c → n ≡ length (encode (DataReceive bytes))
-      → relay′ ≡ put relay 0 (encode (DataReceive bytes)) → r ≡ coded (relaying n d)
+      → relay′ ≡ put relay 0 (encode (DataReceive bytes)) → r ≡ coded (relayed n d)
       → handled r cs ls reply relay′ ≡ applied (planData (lent cs ls al) c bytes) reply relay
   unfolding applied planData put
   sent-on d n bytes r relay′ hd hn hr a = rw (a, hr, hn, hd)

@@ -21,7 +21,7 @@ use Rattle.leases.proofs.LeaseDecision.{the-type}
 use Rattle.leases.specs.Leases.{meaning}
 use Rattle.leases.specs.declared.LeaseDecision.the-variants as decided
 use Rattle.handlers.specs.declared.Answer.{Answer}
-use Rattle.handlers.specs.Applied.{handled, applied, coded, replying}
+use Rattle.handlers.specs.Applied.{handled, applied, coded, replied}
 
 -- ---- ranges and lengths
 
@@ -50,24 +50,24 @@ extension-length until = simp length-bigEndian
 module _ (cs ls al reply relay : List ℕ) (time c : ℕ) where
   pub lease-given : (row id : ℕ) (random : List ℕ) (until n : ℕ) (cookie ls′ reply′ : List ℕ) (r : Answer) → until ≡ leaseEnd al time → cookie ≡ part random 0 24
       → ls′ ≡ grant ls row until id cookie c → n ≡ length (encode (LeaseGranted id cookie until)) → reply′ ≡ put reply 0 (encode (LeaseGranted id cookie until))
-      → r ≡ coded (replying n)
+      → r ≡ coded (replied n)
       → handled r cs ls′ reply′ relay ≡ applied (planLease (lent cs ls al) time c (granted row id (randomCookie random))) reply relay
   unfolding applied planLease put
   lease-given row id random until n cookie ls′ reply′ r hu hc hl hn hr a = rw (a, hr, hn, hl, hc, hu)
 
   pub lease-refused : (n : ℕ) (reply′ : List ℕ) (r : Answer) → n ≡ length (encode LeaseRefused) → reply′ ≡ put reply 0 (encode LeaseRefused)
-      → r ≡ coded (replying n) → handled r cs ls reply′ relay ≡ applied (refuseLease (lent cs ls al)) reply relay
+      → r ≡ coded (replied n) → handled r cs ls reply′ relay ≡ applied (refuseLease (lent cs ls al)) reply relay
   unfolding applied put
   lease-refused n reply′ r hn hr a = rw (a, hr, hn)
 
   pub extended : (row until n : ℕ) (cookie ls′ reply′ : List ℕ) (r : Answer) → row ≡ rowToExtend ls time c cookie → row < endRow (partnerOf c) → until ≡ leaseEnd al time
-      → ls′ ≡ setExpiry ls row until → n ≡ length (encode (ExtensionGranted until)) → reply′ ≡ put reply 0 (encode (ExtensionGranted until)) → r ≡ coded (replying n)
+      → ls′ ≡ setExpiry ls row until → n ≡ length (encode (ExtensionGranted until)) → reply′ ≡ put reply 0 (encode (ExtensionGranted until)) → r ≡ coded (replied n)
       → handled r cs ls′ reply′ relay ≡ applied (planExtension (lent cs ls al) time c cookie) reply relay
   unfolding applied planExtension put
   extended row until n cookie ls′ reply′ r e h hu hl hn hr a = rw (← e, lt-ltb row (endRow (partnerOf c)) h, a, hr, hn, hl, hu)
 
   pub not-extended : (row n : ℕ) (cookie reply′ : List ℕ) (r : Answer) → row ≡ rowToExtend ls time c cookie → endRow (partnerOf c) ≤ row
-      → n ≡ length (encode ExtensionRefused) → reply′ ≡ put reply 0 (encode ExtensionRefused) → r ≡ coded (replying n)
+      → n ≡ length (encode ExtensionRefused) → reply′ ≡ put reply 0 (encode ExtensionRefused) → r ≡ coded (replied n)
       → handled r cs ls reply′ relay ≡ applied (planExtension (lent cs ls al) time c cookie) reply relay
   unfolding applied planExtension put
   not-extended row n cookie reply′ r e h hn hr a = rw (← e, le-ltb row (endRow (partnerOf c)) h, a, hr, hn)

@@ -17,7 +17,7 @@ use Rattle.rules.specs.Searches.{endRow}
 use Rattle.rules.specs.Sessions.{refusedWith, establishedWith, rowOfId, decideEstablish, establish, randomSessionId, callersPeerId, callersKey, holdersPeerId, holdersKey}
 use Rattle.rules.specs.Plans.{planEstablish}
 use Rattle.handlers.specs.declared.Answer.{Answer}
-use Rattle.handlers.specs.Applied.{handled, applied, coded, replying, telling}
+use Rattle.handlers.specs.Applied.{handled, applied, coded, replied, toldBoth}
 use Rattle.handlers.specs.Asked.{Wrote}
 use Rattle.handlers.proofs.Writes.{sized-length, pair-told}
 
@@ -124,14 +124,14 @@ status-range cs ls time c id status e =
 
 module _ (cs ls al reply relay : List ℕ) (c id : ℕ) (random : List ℕ) where
   pub session-refused : (status n : ℕ) (reply′ : List ℕ) (r : Answer) → n ≡ length (encode (EstablishRefused id status))
-      → reply′ ≡ put reply 0 (encode (EstablishRefused id status)) → r ≡ coded (replying n)
+      → reply′ ≡ put reply 0 (encode (EstablishRefused id status)) → r ≡ coded (replied n)
       → handled r cs ls reply′ relay ≡ applied (planEstablish (lent cs ls al) c id random (refusedWith status)) reply relay
   unfolding applied planEstablish put
   session-refused status n reply′ r hn hr a = rw (a, hr, hn)
 
   pub session-made : (h n k : ℕ) (cs′ reply′ relay′ : List ℕ) (r : Answer) → cs′ ≡ establish cs c h random
       → Wrote (encode (Established id (randomSessionId random) (callersPeerId random) (callersKey random))) n reply reply′
-      → Wrote (encode (EstablishNotification (randomSessionId random) (holdersPeerId random) (holdersKey random))) k relay relay′ → r ≡ coded (telling n k h)
+      → Wrote (encode (EstablishNotification (randomSessionId random) (holdersPeerId random) (holdersKey random))) k relay relay′ → r ≡ coded (toldBoth n k h)
       → handled r cs′ ls reply′ relay′ ≡ applied (planEstablish (lent cs ls al) c id random (establishedWith h)) reply relay
   unfolding applied planEstablish
   session-made h n k cs′ reply′ relay′ r e w v a = rw (a, e, w .stored, w .count, v .stored, v .count)

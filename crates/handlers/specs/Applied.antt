@@ -20,17 +20,17 @@ coded a = record {
 }
 
 -- answers of calls that are done: bytes for the caller alone, and for another connection alone
-abbrev pub replying : ℕ → Ruled
-replying n = record { number = 0; replyLength = n; relayLength = 0; destination = nobody; disconnect = false }
+abbrev pub replied : ℕ → Ruled
+replied n = record { number = 0; replyLength = n; relayLength = 0; destination = nobody; disconnect = false }
 
-abbrev pub relaying : ℕ → ℕ → Ruled
-relaying n d = record { number = 0; replyLength = 0; relayLength = n; destination = d; disconnect = false }
+abbrev pub relayed : ℕ → ℕ → Ruled
+relayed n d = record { number = 0; replyLength = 0; relayLength = n; destination = d; disconnect = false }
 
-abbrev pub telling : ℕ → ℕ → ℕ → Ruled
-telling n k d = record { number = 0; replyLength = n; relayLength = k; destination = d; disconnect = false }
+abbrev pub toldBoth : ℕ → ℕ → ℕ → Ruled
+toldBoth n k d = record { number = 0; replyLength = n; relayLength = k; destination = d; disconnect = false }
 
-abbrev pub disconnecting : Ruled
-disconnecting = record { number = 0; replyLength = 0; relayLength = 0; destination = nobody; disconnect = true }
+abbrev pub disconnected : Ruled
+disconnected = record { number = 0; replyLength = 0; relayLength = 0; destination = nobody; disconnect = true }
 
 -- ---- a plan, carried out: the answer, two tables and the buffers afterwards
 

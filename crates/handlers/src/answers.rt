@@ -1,12 +1,12 @@
 // What a call answers.
 ghost use mathlib.Core.Path.{_≡_};
-ghost use Rattle.rules.specs.Calls.{refusal};
-ghost use Rattle.handlers.specs.Applied.{coded, replying, relaying, telling, disconnecting};
+ghost use Rattle.rules.specs.Calls.{sentNothing};
+ghost use Rattle.handlers.specs.Applied.{coded, replied, relayed, toldBoth, disconnected};
 use crate::Answer;
 
-// Nothing sent, to nobody. With 0 it is the answer of a call that is done and sends nothing.
-pub fn refused(number: u32) -> Answer
-    ensures { λ r. ⌜ r ≡ coded (refusal number) ⌝ }
+// Nothing sent, to nobody: of a refusal, or, with 0, of a call that is done.
+pub fn sent_nothing(number: u32) -> Answer
+    ensures { λ r. ⌜ r ≡ coded (sentNothing number) ⌝ }
 {
     Answer {
         number: number,
@@ -19,7 +19,7 @@ pub fn refused(number: u32) -> Answer
 
 // Done, with so many bytes for the caller.
 pub fn replied(length: u32) -> Answer
-    ensures { λ r. ⌜ r ≡ coded (replying length) ⌝ }
+    ensures { λ r. ⌜ r ≡ coded (replied length) ⌝ }
 {
     Answer {
         number: 0,
@@ -32,7 +32,7 @@ pub fn replied(length: u32) -> Answer
 
 // Done, with so many bytes for another connection.
 pub fn relayed(length: u32, destination: u8) -> Answer
-    ensures { λ r. ⌜ r ≡ coded (relaying length destination) ⌝ }
+    ensures { λ r. ⌜ r ≡ coded (relayed length destination) ⌝ }
 {
     Answer {
         number: 0,
@@ -45,7 +45,7 @@ pub fn relayed(length: u32, destination: u8) -> Answer
 
 // Done, and the host has to disconnect the caller.
 pub fn disconnected() -> Answer
-    ensures { λ r. ⌜ r ≡ coded disconnecting ⌝ }
+    ensures { λ r. ⌜ r ≡ coded disconnected ⌝ }
 {
     Answer {
         number: 0,
@@ -58,7 +58,7 @@ pub fn disconnected() -> Answer
 
 // Done, with bytes for the caller and for another connection.
 pub fn both(reply: u32, relay: u32, destination: u8) -> Answer
-    ensures { λ r. ⌜ r ≡ coded (telling reply relay destination) ⌝ }
+    ensures { λ r. ⌜ r ≡ coded (toldBoth reply relay destination) ⌝ }
 {
     Answer {
         number: 0,

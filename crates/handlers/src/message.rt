@@ -51,6 +51,6 @@ pub fn handle(
         ),
         Decoded::SessionEnd => crate::sessions::end(connections, c, relay),
         Decoded::DataSend => crate::sessions::send(connections, c, m, relay),
-        _ => crate::answers::refused(0),
+        _ => crate::answers::sent_nothing(0),
     }
 }

@@ -18,7 +18,7 @@ pub fn answer_version(connections: &mut [u8], c: u8, ok: u8) -> Answer
 {
     if ok == 1 {
         tables::connections::set_open(connections, c);
-        return crate::answers::refused(0);
+        return crate::answers::sent_nothing(0);
     }
     tables::connections::clear(connections, c);
     crate::answers::disconnected()
@@ -46,7 +46,7 @@ pub fn end_if_any(connections: &mut [u8], c: u8, relay: &mut [u8]) -> Answer
     if tables::connections::has_session(connections, c) {
         return end(connections, c, relay);
     }
-    crate::answers::refused(0)
+    crate::answers::sent_nothing(0)
 }
 
 // Type 11: the data goes to the other. The session was looked up by the checks; nothing is cleared before the copy.

@@ -14,7 +14,7 @@ use Rattle.rules.specs.Sizes.{leastBuffer}
 use Rattle.rules.specs.Tables.{lent, Tables, partnerOf, bucketOf, setBucket, setClock}
 use Rattle.rules.specs.Calls.{message}
 use Rattle.rules.specs.Charges.{cost, price, charge}
-use Rattle.rules.specs.Checks.{cramped, malformed, check}
+use Rattle.rules.specs.Checks.{wrongLengths, notFromPeer, check}
 use Rattle.rules.specs.Plans.{Plan, plan, planMessage}
 use Rattle.rules.specs.Step.{done, step}
 use Rattle.handlers.specs.declared.Answer.{Answer}
@@ -24,7 +24,7 @@ use Rattle.checks.specs.Passed.{Payable}
 use Rattle.handlers.specs.Asked.{Admitted}
 use Rattle.checks.proofs.MessageChecks.{ends, peer-length}
 use Rattle.relay.proofs.Ways.{done-way}
-use Rattle.checks.proofs.Stops.{call-sized, call-known, call-timely, not-cramped, not-malformed, payable}
+use Rattle.checks.proofs.Stops.{call-sized, call-known, call-timely, right-lengths, sent-by-peer, payable}
 
 -- ---- the charge
 
@@ -57,15 +57,15 @@ message-done tables cs′ ls′ al′ time c m random reply relay reply′ relay
 
 -- what passed checks show
 module _ (tables : Tables) (time c : ℕ) (m random reply relay : List ℕ) (k : ℕ) (e : k ≡ check tables (message time c m random reply relay)) (z : k ≡ 0) where
-  fits : cramped (message time c m random reply relay) ≡ false
-  fits = not-cramped tables (message time c m random reply relay) k e z
+  fits : wrongLengths (message time c m random reply relay) ≡ false
+  fits = right-lengths tables (message time c m random reply relay) k e z
 
   from-peer : fromPeer m ≡ true
-  unfolding malformed
-  from-peer = not-false _ (not-malformed tables (message time c m random reply relay) k e z)
+  unfolding notFromPeer
+  from-peer = not-false _ (sent-by-peer tables (message time c m random reply relay) k e z)
 
   pub admitted : Admitted (tables .leases) time c m random reply relay
-  unfolding cramped
+  unfolding wrongLengths
   admitted =
       let sizes = either-false _ _ fits in
       let room : max leastBuffer (length m) ≤ length relay = ltb-false _ _ (sizes .1) in

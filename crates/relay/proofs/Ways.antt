@@ -14,13 +14,13 @@ use Rattle.rules.specs.Sizes.{callCost}
 use Rattle.rules.specs.Sessions.{await, clear}
 use Rattle.rules.specs.Leases.{release}
 use Rattle.rules.specs.Charges.{cost, price, charge}
-use Rattle.rules.specs.Calls.{Call, opening, closing, refusal, replyBuffer, relayBuffer}
+use Rattle.rules.specs.Calls.{Call, opening, closing, sentNothing, refusal, replyBuffer, relayBuffer}
 use Rattle.rules.specs.Checks.{check, checkStart}
 use Rattle.rules.specs.Plans.{plan, planOpen, planEnd, planClose, doNothing}
 use Rattle.rules.specs.Step.{refused, done, outcome, step, started, start}
 use Rattle.handlers.specs.declared.Answer.{Answer}
 use Rattle.relay.specs.Results.{Result, result, shown}
-use Rattle.handlers.specs.Applied.{Handled, handled, applied, coded, replying}
+use Rattle.handlers.specs.Applied.{Handled, handled, applied, coded, replied}
 
 -- a call that is refused, and one that is done
 module _ (tables : Tables) (call : Call) (k : ℕ) (e : k ≡ check tables call) where
@@ -46,7 +46,7 @@ module _ (tables : Tables) (time k : ℕ) (e : k ≡ checkStart tables time) whe
       by zero h = absurd (h refl)
       by (suc n) h = refl
 
-  pub start-done : k ≡ 0 → (r : Answer) (cs ls al : List ℕ) → r ≡ coded (refusal 0) → cs ≡ fresh time .connections → ls ≡ fresh time .leases
+  pub start-done : k ≡ 0 → (r : Answer) (cs ls al : List ℕ) → r ≡ coded (sentNothing 0) → cs ≡ fresh time .connections → ls ≡ fresh time .leases
       → al ≡ fresh time .allowances → result r (lent cs ls al) [] [] ≡ shown (start tables time)
   unfolding start
   start-done z r cs ls al a c l m = rw (a, c, l, m) (ap (λ (n : ℕ). shown (started n tables time)) (sym z ∙ e))
@@ -55,7 +55,7 @@ module _ (tables : Tables) (time k : ℕ) (e : k ≡ checkStart tables time) whe
 
 pub open-done : (cs ls al reply cs′ al′ reply′ : List ℕ) (time c n : ℕ) (r : Answer) → cs′ ≡ await cs c
     → al′ ≡ setClock (setBucket al (partnerOf c) (spend (bucketOf al (partnerOf c)) time callCost)) time
-    → n ≡ length (encode (ProtocolVersion 1 0)) → reply′ ≡ put reply 0 (encode (ProtocolVersion 1 0)) → r ≡ coded (replying n)
+    → n ≡ length (encode (ProtocolVersion 1 0)) → reply′ ≡ put reply 0 (encode (ProtocolVersion 1 0)) → r ≡ coded (replied n)
     → result r (lent cs′ ls al′) reply′ [] ≡ shown (done (lent cs ls al) (opening time c reply) (planOpen (lent cs ls al) c))
 unfolding done planOpen charge price cost put
 open-done cs ls al reply cs′ al′ reply′ time c n r h₁ h₂ h₃ h₄ h₅ = rw (h₅, h₁, h₂, h₃, h₄)

@@ -48,7 +48,7 @@ pub extern "C" fn crondelith_close(
 {
     let refusal = checks::close::refusal(connections, leases, allowances, time, connection, relay);
     if refusal != 0 {
-        return handlers::answers::refused(refusal);
+        return handlers::answers::sent_nothing(refusal);
     }
     accept(
         connections,

@@ -18,10 +18,10 @@ pub extern "C" fn crondelith_fresh(
 {
     let refusal = checks::fresh::refusal(connections, leases, allowances, time);
     if refusal != 0 {
-        return handlers::answers::refused(refusal);
+        return handlers::answers::sent_nothing(refusal);
     }
     tables::fresh::fresh_connections(connections);
     tables::fresh::fresh_leases(leases);
     tables::fresh::fresh_allowances(allowances, time);
-    handlers::answers::refused(0)
+    handlers::answers::sent_nothing(0)
 }

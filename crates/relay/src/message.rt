@@ -58,7 +58,7 @@ pub extern "C" fn crondelith_message(
         relay,
     );
     if refusal != 0 {
-        return handlers::answers::refused(refusal);
+        return handlers::answers::sent_nothing(refusal);
     }
     let c = connection as u8;
     let answer = handlers::message::handle(

@@ -46,7 +46,7 @@ pub extern "C" fn crondelith_open(
 {
     let refusal = checks::open::refusal(connections, leases, allowances, time, connection, reply);
     if refusal != 0 {
-        return handlers::answers::refused(refusal);
+        return handlers::answers::sent_nothing(refusal);
     }
     accept(connections, allowances, time, connection as u8, reply)
 }

@@ -15,7 +15,7 @@ use Rattle.rules.specs.Sizes.{partners, connectionCount, connectionsSize
 use Rattle.rules.specs.Tables.{Tables, opened, state, isClosed, hasSession, clock, sized}
 use Rattle.rules.specs.Calls.{Call, opening, message, closing, timeOf, connectionOf, callerOf}
 use Rattle.rules.specs.Charges.{charged, cost, price, callerLevel}
-use Rattle.rules.specs.Checks.{untimely, misplaced, cramped, malformed, permits, forbidden, sessionless, overdrawn, firstEight, checks, firstApplying, precheck, check}
+use Rattle.rules.specs.Checks.{wrongTime, wrongState, wrongLengths, notFromPeer, permits, notPermitted, noSession, aboveLevel, firstEight, checks, firstApplying, precheck, check}
 
 -- ---- the first that applies
 
@@ -75,10 +75,10 @@ pub free-price : (tables : Tables) (call : Call) → charged call ≡ false → 
 unfolding price cost
 free-price tables call e = rw e
 
-overdrawn-charged : (tables : Tables) (call : Call)
-    → overdrawn tables call ≡ charged call && ltb (callerLevel (tables .allowances) call) (price tables call)
-unfolding overdrawn
-overdrawn-charged tables call = go (callerLevel (tables .allowances) call) (charged call) refl
+above-level-charged : (tables : Tables) (call : Call)
+    → aboveLevel tables call ≡ charged call && ltb (callerLevel (tables .allowances) call) (price tables call)
+unfolding aboveLevel
+above-level-charged tables call = go (callerLevel (tables .allowances) call) (charged call) refl
   where
     go : (level : ℕ) (k : Bool) → charged call ≡ k → ltb level (price tables call) ≡ k && ltb level (price tables call)
     go level true e = refl
@@ -89,8 +89,8 @@ pub check-verdict : (tables : Tables) (call : Call)
     → check tables call ≡ verdict (precheck tables call) (charged call) (callerLevel (tables .allowances) call) (price tables call)
 unfolding check checks precheck firstEight
 check-verdict tables call =
-    one-more 0 (firstEight tables call) (overdrawn tables call)
-    ∙ rw (overdrawn-charged tables call)
+    one-more 0 (firstEight tables call) (aboveLevel tables call)
+    ∙ rw (above-level-charged tables call)
     (sym (verdict-decides (precheck tables call) (charged call) (callerLevel (tables .allowances) call) (price tables call)))
 
 -- ---- what is known of a call that passed the first eight
@@ -109,7 +109,7 @@ pub record Passed (tables : Tables) (call : Call) : Type 0 where
   pub of-partner : callerOf call < partners
 
 pub passed : (tables : Tables) (call : Call) → precheck tables call ≡ 0 → Passed tables call
-unfolding precheck firstEight sized untimely
+unfolding precheck firstEight sized wrongTime
 passed tables call h =
     let no : (i : ℕ) → getD (firstEight tables call) i false ≡ false = none-applies 0 (firstEight tables call) h in
     let all = not-false (sized tables) (no 0) in
@@ -134,20 +134,20 @@ no-check-of tables call h = none-applies 0 (firstEight tables call) h
 -- and of each kind of call besides
 pub opens-closed : (tables : Tables) (now c : ℕ) (reply : List ℕ) → precheck tables (opening now c reply) ≡ 0
     → isClosed (tables .connections) c ≡ true
-unfolding firstEight misplaced
+unfolding firstEight wrongState
 opens-closed tables now c reply h = not-false (isClosed (tables .connections) c) (no-check-of tables (opening now c reply) h 3)
 
 pub closes-not-closed : (tables : Tables) (now c : ℕ) (relay : List ℕ) → precheck tables (closing now c relay) ≡ 0
     → isClosed (tables .connections) c ≡ false
-unfolding firstEight misplaced
+unfolding firstEight wrongState
 closes-not-closed tables now c relay h = no-check-of tables (closing now c relay) h 3
 
 pub open-room : (tables : Tables) (now c : ℕ) (reply : List ℕ) → precheck tables (opening now c reply) ≡ 0 → leastBuffer ≤ length reply
-unfolding firstEight cramped
+unfolding firstEight wrongLengths
 open-room tables now c reply h = ltb-false (length reply) leastBuffer (no-check-of tables (opening now c reply) h 4)
 
 pub close-room : (tables : Tables) (now c : ℕ) (relay : List ℕ) → precheck tables (closing now c relay) ≡ 0 → leastBuffer ≤ length relay
-unfolding firstEight cramped
+unfolding firstEight wrongLengths
 close-room tables now c relay h = ltb-false (length relay) leastBuffer (no-check-of tables (closing now c relay) h 4)
 
 module _ (tables : Tables) (now c : ℕ) (m random reply relay : List ℕ) (h : precheck tables (message now c m random reply relay) ≡ 0) where
@@ -155,17 +155,17 @@ module _ (tables : Tables) (now c : ℕ) (m random reply relay : List ℕ) (h : 
   no-check = no-check-of tables (message now c m random reply relay) h
 
   pub not-closed : isClosed (tables .connections) c ≡ false
-  unfolding firstEight misplaced
+  unfolding firstEight wrongState
   not-closed = no-check 3
 
   pub from-peer : fromPeer m ≡ true
-  unfolding firstEight malformed
+  unfolding firstEight notFromPeer
   from-peer = not-false (fromPeer m) (no-check 5)
 
   room : (not (eqb (length random) randomBytes) ≡ false)
       × (ltb (length reply) leastBuffer ≡ false)
       × (ltb (length relay) (max leastBuffer (length m)) ≡ false)
-  unfolding firstEight cramped
+  unfolding firstEight wrongLengths
   room =
       let two = neither (not (eqb (length random) randomBytes) || ltb (length reply) leastBuffer) _ (no-check 4) in
       let one = neither (not (eqb (length random) randomBytes)) _ (two .0) in
@@ -181,11 +181,11 @@ module _ (tables : Tables) (now c : ℕ) (m random reply relay : List ℕ) (h : 
   relay-room = ltb-false (length relay) (max leastBuffer (length m)) (room .2)
 
   pub has-session : eqb (typeOf m) 9 || eqb (typeOf m) 11 ≡ true → hasSession (tables .connections) c ≡ true
-  unfolding firstEight sessionless
+  unfolding firstEight noSession
   has-session e = not-false (hasSession (tables .connections) c) (sym (rw e) ∙ no-check 7)
 
   pub is-permitted : permits (state (tables .connections) c) (typeOf m) ≡ true
-  unfolding firstEight forbidden
+  unfolding firstEight notPermitted
   is-permitted = not-false (permits (state (tables .connections) c) (typeOf m)) (no-check 6)
 
 -- type 6 comes on open connections alone

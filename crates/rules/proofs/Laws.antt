@@ -15,7 +15,7 @@ use Rattle.rules.specs.Tables.{Tables, inSession, bucketOf, clock, sized
 use Rattle.rules.specs.Calls.{Call, timeOf, connectionOf, callerOf, Outcome}
 use Rattle.rules.specs.Plans.{plan}
 use Rattle.rules.specs.Charges.{charged, received, cost, price}
-use Rattle.rules.specs.Checks.{precheck, missized, pastLimit, checkStart}
+use Rattle.rules.specs.Checks.{precheck, wrongSize, pastLimit, checkStart}
 use Rattle.rules.specs.Step.{step, done, start, started}
 use Rattle.rules.specs.Runs.{after, history}
 use Rattle.rules.specs.Laws.{Accepted, Unchanged, WithinPartner, DistinctIds}
@@ -37,10 +37,10 @@ module _ (tables : Tables) (now : ℕ) where
   unfolding checkStart
   started-exactly = (
     (λ e. (not-false (sized tables) (none-applies 0 _ (sym (start-number tables now) ∙ e) 0), started-in-limit tables now e)),
-    (λ q. start-number tables now ∙ all-pass 1 (missized tables ∷ pastLimit now ∷ []) (passes (q .0) (q .1))),
+    (λ q. start-number tables now ∙ all-pass 1 (wrongSize tables ∷ pastLimit now ∷ []) (passes (q .0) (q .1))),
   )
     where
-      passes : sized tables ≡ true → now < timeLimit → (i : ℕ) → getD (missized tables ∷ pastLimit now ∷ []) i false ≡ false
+      passes : sized tables ≡ true → now < timeLimit → (i : ℕ) → getD (wrongSize tables ∷ pastLimit now ∷ []) i false ≡ false
       passes s l zero = rw s
       passes s l (suc zero) = lt-leb timeLimit now l
       passes s l (suc (suc i)) = refl

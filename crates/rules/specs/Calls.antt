@@ -46,9 +46,13 @@ pub record Answer : Type 0 where
   pub destination : ℕ
   pub disconnect : Bool
 
+-- the answer with a number where nothing is sent: 0, 0, 255, no
+abbrev pub sentNothing : ℕ → Answer
+sentNothing n = record { number = n; replyLength = 0; relayLength = 0; destination = nobody; disconnect = false }
+
 -- "Refusals 1 to 9 report 0, 0, 255, no"
 abbrev pub refusal : ℕ → Answer
-refusal n = record { number = n; replyLength = 0; relayLength = 0; destination = nobody; disconnect = false }
+refusal n = sentNothing n
 
 -- the answer, and every byte of tables and buffers afterwards
 pub record Outcome : Type 0 where

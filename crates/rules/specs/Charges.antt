@@ -27,7 +27,8 @@ received (closing now c relay) = 0
 unfoldable pub cost : Call → ℕ
 cost call = if charged call then callCost + received call else 0
 
--- what the call costs on these tables, which check 9 compares with the level; in history stands `cost`, which sees no table
+-- What check 9 compares with the level, and what a done call is charged: the cost (law `price-is-cost`). It is given the tables, and
+-- `cost`, which stands in history, is not.
 unfoldable pub price : Tables → Call → ℕ
 price tables call = cost call
 

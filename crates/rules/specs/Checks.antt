@@ -11,39 +11,39 @@ use Rattle.rules.specs.Calls.{Call, opening, message, closing, timeOf, c
 use Rattle.rules.specs.Charges.{price, callerLevel}
 
 -- 1: "a table isn't 4,096, 5,120 or 144 bytes"
-abbrev pub missized : Tables → Bool
-missized tables = not (sized tables)
+abbrev pub wrongSize : Tables → Bool
+wrongSize tables = not (sized tables)
 
 -- 2: "the reading is 2^40 or more, or (not for making a fresh relay) below the latest"
 abbrev pub pastLimit : ℕ → Bool
 pastLimit now = leb timeLimit now
 
-unfoldable pub untimely : List ℕ → Call → Bool
-untimely al call = pastLimit (timeOf call) || ltb (timeOf call) (clock al)
+unfoldable pub wrongTime : List ℕ → Call → Bool
+wrongTime al call = pastLimit (timeOf call) || ltb (timeOf call) (clock al)
 
 -- 3: "connection number 64 or more"
-abbrev pub unknown : Call → Bool
-unknown call = leb connectionCount (connectionOf call)
+abbrev pub unknownConnection : Call → Bool
+unknownConnection call = leb connectionCount (connectionOf call)
 
 -- 4: "open on a connection not closed; message or close on a closed one"
-unfoldable pub misplaced : List ℕ → Call → Bool
-misplaced cs (opening now c reply) = not (isClosed cs c)
-misplaced cs (message now c m random reply relay) = isClosed cs c
-misplaced cs (closing now c relay) = isClosed cs c
+unfoldable pub wrongState : List ℕ → Call → Bool
+wrongState cs (opening now c reply) = not (isClosed cs c)
+wrongState cs (message now c m random reply relay) = isClosed cs c
+wrongState cs (closing now c relay) = isClosed cs c
 
 -- 5: "message: draw not 80 bytes, reply tray under 64, relay tray under the larger of 64 and the message length; open: reply tray under 64;
 -- close: relay tray under 64"
-unfoldable pub cramped : Call → Bool
-cramped (opening now c reply) = ltb (length reply) leastBuffer
-cramped (message now c m random reply relay) =
+unfoldable pub wrongLengths : Call → Bool
+wrongLengths (opening now c reply) = ltb (length reply) leastBuffer
+wrongLengths (message now c m random reply relay) =
     not (eqb (length random) randomBytes) || ltb (length reply) leastBuffer || ltb (length relay) (max leastBuffer (length m))
-cramped (closing now c relay) = ltb (length relay) leastBuffer
+wrongLengths (closing now c relay) = ltb (length relay) leastBuffer
 
 -- 6: "not a message that peers send, per the table above"
-unfoldable pub malformed : Call → Bool
-malformed (opening now c reply) = false
-malformed (message now c m random reply relay) = not (fromPeer m)
-malformed (closing now c relay) = false
+unfoldable pub notFromPeer : Call → Bool
+notFromPeer (opening now c reply) = false
+notFromPeer (message now c m random reply relay) = not (fromPeer m)
+notFromPeer (closing now c relay) = false
 
 -- 7: "which type may come in which state is a table of three rows and fourteen columns; awaiting permits 1 only, open permits 2, 4, 6,
 -- 9, 11, 13"
@@ -57,36 +57,36 @@ permitted =
 abbrev pub permits : ℕ → ℕ → Bool
 permits s type = getD (getD permitted s []) type false
 
-unfoldable pub forbidden : List ℕ → Call → Bool
-forbidden cs (opening now c reply) = false
-forbidden cs (message now c m random reply relay) = not (permits (state cs c) (typeOf m))
-forbidden cs (closing now c relay) = false
+unfoldable pub notPermitted : List ℕ → Call → Bool
+notPermitted cs (opening now c reply) = false
+notPermitted cs (message now c m random reply relay) = not (permits (state cs c) (typeOf m))
+notPermitted cs (closing now c relay) = false
 
 -- 8: "type 9 or 11 without a session"
-unfoldable pub sessionless : List ℕ → Call → Bool
-sessionless cs (opening now c reply) = false
-sessionless cs (message now c m random reply relay) = (eqb (typeOf m) 9 || eqb (typeOf m) 11) && not (hasSession cs c)
-sessionless cs (closing now c relay) = false
+unfoldable pub noSession : List ℕ → Call → Bool
+noSession cs (opening now c reply) = false
+noSession cs (message now c m random reply relay) = (eqb (typeOf m) 9 || eqb (typeOf m) 11) && not (hasSession cs c)
+noSession cs (closing now c relay) = false
 
 -- 9: "the charge exceeds the partner's level"; "Equal cost and level passes."
-unfoldable pub overdrawn : Tables → Call → Bool
-overdrawn tables call = ltb (callerLevel (tables .allowances) call) (price tables call)
+unfoldable pub aboveLevel : Tables → Call → Bool
+aboveLevel tables call = ltb (callerLevel (tables .allowances) call) (price tables call)
 
 -- the table, in its order: all but the last
 unfoldable pub firstEight : Tables → Call → List Bool
 firstEight tables call =
-    missized tables
-    ∷ untimely (tables .allowances) call
-    ∷ unknown call
-    ∷ misplaced (tables .connections) call
-    ∷ cramped call
-    ∷ malformed call
-    ∷ forbidden (tables .connections) call
-    ∷ sessionless (tables .connections) call
+    wrongSize tables
+    ∷ wrongTime (tables .allowances) call
+    ∷ unknownConnection call
+    ∷ wrongState (tables .connections) call
+    ∷ wrongLengths call
+    ∷ notFromPeer call
+    ∷ notPermitted (tables .connections) call
+    ∷ noSession (tables .connections) call
     ∷ []
 
 unfoldable pub checks : Tables → Call → List Bool
-checks tables call = firstEight tables call ++ (overdrawn tables call ∷ [])
+checks tables call = firstEight tables call ++ (aboveLevel tables call ∷ [])
 
 -- "Checks run in this order; the first that applies decides": its number, where the first of the list has the number n; 0 if none applies
 unfoldable pub firstApplying : ℕ → List Bool → ℕ
@@ -102,4 +102,4 @@ check tables call = firstApplying 1 (checks tables call)
 
 -- "Making a fresh relay has checks 1 and 2 and no trays."
 unfoldable pub checkStart : Tables → ℕ → ℕ
-checkStart tables now = firstApplying 1 (missized tables ∷ pastLimit now ∷ [])
+checkStart tables now = firstApplying 1 (wrongSize tables ∷ pastLimit now ∷ [])

@@ -9,7 +9,7 @@ use Rattle.rules.specs.Leases.{leaseEnd, candidate, idTaken, firstFree, 
 use Rattle.rules.specs.Sessions.{clear, await, rowOfId, decideEstablish, join, establish, leave, endSession}
 use Rattle.rules.specs.Plans.{planOpen, planVersionAnswer, planLease, planExtension, planEstablish, planEnd, planData, planClose, planMessage, plan}
 use Rattle.rules.specs.Charges.{cost, price, callerLevel, charge}
-use Rattle.rules.specs.Checks.{untimely, misplaced, cramped, malformed, forbidden, sessionless, overdrawn, firstEight, checks, firstApplying, precheck, check, checkStart}
+use Rattle.rules.specs.Checks.{wrongTime, wrongState, wrongLengths, notFromPeer, notPermitted, noSession, aboveLevel, firstEight, checks, firstApplying, precheck, check, checkStart}
 use Rattle.rules.specs.Step.{done, step, start}
 
 unfoldable pub bytes : Unit {0}
@@ -37,7 +37,7 @@ unfolding planOpen planVersionAnswer planLease planExtension planEstablish planE
 plans = tt
 
 unfoldable pub checked : Unit {0}
-unfolding untimely misplaced cramped malformed forbidden sessionless overdrawn firstEight checks firstApplying precheck check checkStart
+unfolding wrongTime wrongState wrongLengths notFromPeer notPermitted noSession aboveLevel firstEight checks firstApplying precheck check checkStart
 checked = tt
 
 unfoldable pub calls : Unit {0}

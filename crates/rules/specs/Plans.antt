@@ -24,23 +24,23 @@ pub record Plan : Type 0 where
   pub leases : List ℕ
 
 -- "With nothing in the relay tray the destination is 255; only type 1 with ok 0 hangs up."
-abbrev pub replying : List ℕ → List ℕ → List ℕ → Plan
-replying cs ls bytes = record { reply = bytes; relay = []; destination = nobody; disconnect = false; connections = cs; leases = ls }
+abbrev pub replyOnly : List ℕ → List ℕ → List ℕ → Plan
+replyOnly cs ls bytes = record { reply = bytes; relay = []; destination = nobody; disconnect = false; connections = cs; leases = ls }
 
-abbrev pub relaying : List ℕ → List ℕ → List ℕ → ℕ → Plan
-relaying cs ls bytes d = record { reply = []; relay = bytes; destination = d; disconnect = false; connections = cs; leases = ls }
+abbrev pub relayOnly : List ℕ → List ℕ → List ℕ → ℕ → Plan
+relayOnly cs ls bytes d = record { reply = []; relay = bytes; destination = d; disconnect = false; connections = cs; leases = ls }
 
 abbrev pub doNothing : Tables → Plan
-doNothing tables = replying (tables .connections) (tables .leases) []
+doNothing tables = replyOnly (tables .connections) (tables .leases) []
 
 -- Open: "reply is the version message", "SVSC 001.000"
 unfoldable pub planOpen : Tables → ℕ → Plan
-planOpen tables c = replying (await (tables .connections) c) (tables .leases) (encode (ProtocolVersion 1 0))
+planOpen tables c = replyOnly (await (tables .connections) c) (tables .leases) (encode (ProtocolVersion 1 0))
 
 -- Type 1: "ok 1 gives state 2; ok 0 puts the record back to fresh and hangs up"
 unfoldable pub planVersionAnswer : Tables → ℕ → ℕ → Plan
 planVersionAnswer tables c ok =
-    if eqb ok 1 then replying (setState (tables .connections) c opened) (tables .leases) []
+    if eqb ok 1 then replyOnly (setState (tables .connections) c opened) (tables .leases) []
     else record {
       reply = [];
       relay = [];
@@ -52,7 +52,7 @@ planVersionAnswer tables c ok =
 
 -- Lease: "reply is type 3"; "Otherwise accepted 0, still answer 0."
 abbrev pub refuseLease : Tables → Plan
-refuseLease tables = replying (tables .connections) (tables .leases) (encode LeaseRefused)
+refuseLease tables = replyOnly (tables .connections) (tables .leases) (encode LeaseRefused)
 
 unfoldable pub planLease : Tables → ℕ → ℕ → LeaseDecision → Plan
 planLease tables now c holdsLease = refuseLease tables
@@ -61,7 +61,7 @@ planLease tables now c cookieInUse = refuseLease tables
 planLease tables now c noFreeId = refuseLease tables
 planLease tables now c (granted row id cookie) =
     let until = leaseEnd (tables .allowances) now in
-    replying (tables .connections) (grant (tables .leases) row until id cookie c) (encode (LeaseGranted id cookie until))
+    replyOnly (tables .connections) (grant (tables .leases) row until id cookie c) (encode (LeaseGranted id cookie until))
 
 -- Extension: "reply is type 5"; "expiry becomes reading + 3,600"
 unfoldable pub planExtension : Tables → ℕ → ℕ → List ℕ → Plan
@@ -69,13 +69,13 @@ planExtension tables now c cookie =
     let row = rowToExtend (tables .leases) now c cookie in
     let until = leaseEnd (tables .allowances) now in
     if ltb row (endRow (partnerOf c))
-    then replying (tables .connections) (setExpiry (tables .leases) row until) (encode (ExtensionGranted until))
-    else replying (tables .connections) (tables .leases) (encode ExtensionRefused)
+    then replyOnly (tables .connections) (setExpiry (tables .leases) row until) (encode (ExtensionGranted until))
+    else replyOnly (tables .connections) (tables .leases) (encode ExtensionRefused)
 
 -- Establish: "reply is type 7 with the caller's pair, relay is type 8 with the holder's pair, to the holder"
 unfoldable pub planEstablish : Tables → ℕ → ℕ → List ℕ → EstablishDecision → Plan
 planEstablish tables c id random (refusedWith status) =
-    replying (tables .connections) (tables .leases) (encode (EstablishRefused id status))
+    replyOnly (tables .connections) (tables .leases) (encode (EstablishRefused id status))
 planEstablish tables c id random (establishedWith h) = record {
   reply = encode (Established id (randomSessionId random) (callersPeerId random) (callersKey random));
   relay = encode (EstablishNotification (randomSessionId random) (holdersPeerId random) (holdersKey random));
@@ -89,12 +89,12 @@ planEstablish tables c id random (establishedWith h) = record {
 unfoldable pub planEnd : Tables → ℕ → Plan
 planEnd tables c =
     let d = peer (tables .connections) c in
-    relaying (endSession (tables .connections) c d) (tables .leases) (encode SessionEndNotification) d
+    relayOnly (endSession (tables .connections) c d) (tables .leases) (encode SessionEndNotification) d
 
 -- Type 11: "relay is 12 and the same data, to the other"
 unfoldable pub planData : Tables → ℕ → List ℕ → Plan
 planData tables c bytes =
-    relaying (tables .connections) (tables .leases) (encode (DataReceive bytes)) (peer (tables .connections) c)
+    relayOnly (tables .connections) (tables .leases) (encode (DataReceive bytes)) (peer (tables .connections) c)
 
 -- Close: "ends a session as type 9 does, sets byte 12 to 255 in the partner's rows that name this connection, puts its record back to
 -- fresh"

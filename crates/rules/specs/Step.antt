@@ -5,7 +5,7 @@ use mathlib.Core.List.{[]}
 use lib.ListN.{length}
 use Rattle.octets.specs.Octets.{put}
 use Rattle.rules.specs.Tables.{Tables, fresh, setClock}
-use Rattle.rules.specs.Calls.{Call, timeOf, replyBuffer, relayBuffer, refusal, Outcome}
+use Rattle.rules.specs.Calls.{Call, timeOf, replyBuffer, relayBuffer, sentNothing, refusal, Outcome}
 use Rattle.rules.specs.Charges.{price, charge}
 use Rattle.rules.specs.Plans.{Plan, plan}
 use Rattle.rules.specs.Checks.{check, checkStart}
@@ -43,7 +43,7 @@ step tables call = outcome (check tables call) tables call
 
 -- Making a fresh relay: the tables become fresh, or stay. Nothing is sent.
 abbrev pub started : ℕ → Tables → ℕ → Outcome
-started zero tables now = record { answer = refusal 0; tables = fresh now; reply = []; relay = [] }
+started zero tables now = record { answer = sentNothing 0; tables = fresh now; reply = []; relay = [] }
 started (suc n) tables now = record { answer = refusal (suc n); tables = tables; reply = []; relay = [] }
 
 unfoldable pub start : Tables → ℕ → Outcome

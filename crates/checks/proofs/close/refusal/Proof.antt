@@ -2,7 +2,7 @@
 use native.Mathlib.Omega.{arith}
 use Rattle.rules.specs.Tables.{lent}
 use Rattle.rules.specs.Calls.{closing}
-use Rattle.checks.proofs.Stops.{three-known, three-stop, close-misplaced, close-cramped, close-passes}
+use Rattle.checks.proofs.Stops.{three-known, three-stop, close-wrong-state, close-wrong-lengths, close-passes}
 use borrow.Author.Needs.{needs}
 use Rattle.checks.proofs.close.refusal.Statement.{statement}
 use Rattle.checks.proofs.close.refusal.Tie as tie
@@ -27,12 +27,12 @@ state-requires c κs = search needs
 returns-2 : tie.Need-returns-2
 returns-2 c =
     let a = c .before .before .before .before .before .before .before .before .args in
-    close-misplaced (lent (a .connections .now) (a .leases .now) (a .allowances .now)) (a .time) (a .connection) (a .relay .now) _ _ (c .before .before .before .first-three .ensures) (c .before .before .if1 .left) (c .before .state .ensures) (c .if2 .taken)
+    close-wrong-state (lent (a .connections .now) (a .leases .now) (a .allowances .now)) (a .time) (a .connection) (a .relay .now) _ _ (c .before .before .before .first-three .ensures) (c .before .before .if1 .left) (c .before .state .ensures) (c .if2 .taken)
 
 returns-3 : tie.Need-returns-3
 returns-3 c =
     let a = c .before .before .before .before .before .before .before .before .before .args in
-    close-cramped (lent (a .connections .now) (a .leases .now) (a .allowances .now)) (a .time) (a .connection) (a .relay .now) _ _ (c .before .before .before .before .first-three .ensures) (c .before .before .before .if1 .left) (c .before .before .state .ensures) (c .before .if2 .left) (c .if3 .taken)
+    close-wrong-lengths (lent (a .connections .now) (a .leases .now) (a .allowances .now)) (a .time) (a .connection) (a .relay .now) _ _ (c .before .before .before .before .first-three .ensures) (c .before .before .before .if1 .left) (c .before .before .state .ensures) (c .before .if2 .left) (c .if3 .taken)
 
 returns-4 : tie.Need-returns-4
 returns-4 c =

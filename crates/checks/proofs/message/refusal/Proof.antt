@@ -3,7 +3,7 @@ use native.Mathlib.Omega.{arith}
 use Rattle.rules.specs.Tables.{lent}
 use Rattle.rules.specs.Calls.{message}
 use Rattle.checks.proofs.Stops.{three-known, three-sized, three-stop}
-use Rattle.checks.proofs.MessageChecks.{own-stop, own-peer, peer-length, message-overdrawn, message-passes}
+use Rattle.checks.proofs.MessageChecks.{own-stop, own-peer, peer-length, message-above-level, message-passes}
 use borrow.Author.Needs.{needs}
 use Rattle.checks.proofs.message.refusal.Statement.{statement}
 use Rattle.checks.proofs.message.refusal.Tie as tie
@@ -47,7 +47,7 @@ cost-requires c κs =
 returns-3 : tie.Need-returns-3
 returns-3 c =
     let a = c .before .before .before .before .before .before .before .before .before .before .before .before .before .before .before .args in
-    message-overdrawn (lent (a .connections .now) (a .leases .now) (a .allowances .now)) (a .time) (a .connection) (a .m .now) (a .random .now) (a .reply .now) (a .relay .now) _ _ (c .before .before .before .before .before .before .before .first-three .ensures) (c .before .before .before .before .before .before .if1 .left) (c .before .before .before .before .before .own-refusal .ensures (a .time)) (c .before .before .before .before .if2 .left) _ _
+    message-above-level (lent (a .connections .now) (a .leases .now) (a .allowances .now)) (a .time) (a .connection) (a .m .now) (a .random .now) (a .reply .now) (a .relay .now) _ _ (c .before .before .before .before .before .before .before .first-three .ensures) (c .before .before .before .before .before .before .if1 .left) (c .before .before .before .before .before .own-refusal .ensures (a .time)) (c .before .before .before .before .if2 .left) _ _
     (rw (← (c .before .before .before .partner-of .ensures)) (c .before .before .level .ensures)) (c .before .cost .ensures (a .time) (a .connection) (a .random .now) (a .reply .now) (a .relay .now)) (c .if3 .taken)
 
 returns-4 : tie.Need-returns-4

@@ -2,7 +2,7 @@
 use native.Mathlib.Omega.{arith}
 use Rattle.rules.specs.Tables.{lent}
 use Rattle.rules.specs.Calls.{opening}
-use Rattle.checks.proofs.Stops.{three-known, three-sized, three-stop, open-misplaced, open-cramped, open-overdrawn, open-passes}
+use Rattle.checks.proofs.Stops.{three-known, three-sized, three-stop, open-wrong-state, open-wrong-lengths, open-above-level, open-passes}
 use borrow.Author.Needs.{needs}
 use Rattle.checks.proofs.open.refusal.Statement.{statement}
 use Rattle.checks.proofs.open.refusal.Tie as tie
@@ -27,12 +27,12 @@ state-requires c κs = search needs
 returns-2 : tie.Need-returns-2
 returns-2 c =
     let a = c .before .before .before .before .before .before .before .before .args in
-    open-misplaced (lent (a .connections .now) (a .leases .now) (a .allowances .now)) (a .time) (a .connection) (a .reply .now) _ _ (c .before .before .before .first-three .ensures) (c .before .before .if1 .left) (c .before .state .ensures) (c .if2 .taken)
+    open-wrong-state (lent (a .connections .now) (a .leases .now) (a .allowances .now)) (a .time) (a .connection) (a .reply .now) _ _ (c .before .before .before .first-three .ensures) (c .before .before .if1 .left) (c .before .state .ensures) (c .if2 .taken)
 
 returns-3 : tie.Need-returns-3
 returns-3 c =
     let a = c .before .before .before .before .before .before .before .before .before .args in
-    open-cramped (lent (a .connections .now) (a .leases .now) (a .allowances .now)) (a .time) (a .connection) (a .reply .now) _ _ (c .before .before .before .before .first-three .ensures) (c .before .before .before .if1 .left) (c .before .before .state .ensures) (c .before .if2 .left) (c .if3 .taken)
+    open-wrong-lengths (lent (a .connections .now) (a .leases .now) (a .allowances .now)) (a .time) (a .connection) (a .reply .now) _ _ (c .before .before .before .before .first-three .ensures) (c .before .before .before .if1 .left) (c .before .before .state .ensures) (c .before .if2 .left) (c .if3 .taken)
 
 cast-partner : tie.Need-cast-partner
 cast-partner c = search needs
@@ -46,7 +46,7 @@ level-requires c κs =
 returns-4 : tie.Need-returns-4
 returns-4 c =
     let a = c .before .before .before .before .before .before .before .before .before .before .before .args in
-    open-overdrawn (lent (a .connections .now) (a .leases .now) (a .allowances .now)) (a .time) (a .connection) (a .reply .now) _ _ (c .before .before .before .before .before .before .first-three .ensures) (c .before .before .before .before .before .if1 .left) (c .before .before .before .before .state .ensures) (c .before .before .before .if2 .left) (c .before .before .if3 .left) _ (c .before .level .ensures) (c .if4 .taken)
+    open-above-level (lent (a .connections .now) (a .leases .now) (a .allowances .now)) (a .time) (a .connection) (a .reply .now) _ _ (c .before .before .before .before .before .before .first-three .ensures) (c .before .before .before .before .before .if1 .left) (c .before .before .before .before .state .ensures) (c .before .before .before .if2 .left) (c .before .before .if3 .left) _ (c .before .level .ensures) (c .if4 .taken)
 
 returns-5 : tie.Need-returns-5
 returns-5 c =

@@ -15,26 +15,26 @@ returns c =
     let a = c .before .before .before .before .before .args in
     wrong-size (lent (a .connections .now) (a .leases .now) (a .allowances .now)) (a .time) (a .connection) _ _ (c .before .sized .ensures) refl (c .if1 .taken)
 
-untimely-requires : tie.Need-untimely-requires
-untimely-requires c κs =
+is-wrong-time-requires : tie.Need-is-wrong-time-requires
+is-wrong-time-requires c κs =
     let a = c .before .before .before .before .before .args in
     sizes-known (lent (a .connections .now) (a .leases .now) (a .allowances .now)) (sym (c .before .sized .ensures) ∙ not-false _ (c .if1 .left)) .allowances
 
 returns-2 : tie.Need-returns-2
 returns-2 c =
     let a = c .before .before .before .before .before .before .before .args in
-    wrong-time (lent (a .connections .now) (a .leases .now) (a .allowances .now)) (a .time) (a .connection) _ _ (c .before .before .before .sized .ensures) (c .before .untimely .ensures) (c .before .before .if1 .left) (c .if2 .taken)
+    wrong-time (lent (a .connections .now) (a .leases .now) (a .allowances .now)) (a .time) (a .connection) _ _ (c .before .before .before .sized .ensures) (c .before .is-wrong-time .ensures) (c .before .before .if1 .left) (c .if2 .taken)
 
 returns-3 : tie.Need-returns-3
 returns-3 c =
     let a = c .before .before .before .before .before .before .before .before .args in
-    wrong-connection (lent (a .connections .now) (a .leases .now) (a .allowances .now)) (a .time) (a .connection) _ _ (c .before .before .before .before .sized .ensures) (c .before .before .untimely .ensures) (c .before .before .before .if1 .left) (c .before .if2 .left) (c .if3 .taken)
+    wrong-connection (lent (a .connections .now) (a .leases .now) (a .allowances .now)) (a .time) (a .connection) _ _ (c .before .before .before .before .sized .ensures) (c .before .before .is-wrong-time .ensures) (c .before .before .before .if1 .left) (c .before .if2 .left) (c .if3 .taken)
 
 returns-4 : tie.Need-returns-4
 returns-4 c =
     let a = c .before .before .before .before .before .before .before .before .args in
-    three-pass (lent (a .connections .now) (a .leases .now) (a .allowances .now)) (a .time) (a .connection) _ _ (c .before .before .before .before .sized .ensures) (c .before .before .untimely .ensures) (c .before .before .before .if1 .left) (c .before .if2 .left) (c .if3 .left)
+    three-pass (lent (a .connections .now) (a .leases .now) (a .allowances .now)) (a .time) (a .connection) _ _ (c .before .before .before .before .sized .ensures) (c .before .before .is-wrong-time .ensures) (c .before .before .before .if1 .left) (c .before .if2 .left) (c .if3 .left)
 
 pub first-three-spec : {M : Type 1} → statement M
 first-three-spec =
-    tie.close (tie.spec sized-requires returns untimely-requires returns-2 returns-3 returns-4)
+    tie.close (tie.spec sized-requires returns is-wrong-time-requires returns-2 returns-3 returns-4)

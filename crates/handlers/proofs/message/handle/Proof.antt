@@ -67,8 +67,8 @@ send-requires c κs =
     sendable (s .args .m .now) (s .args .relay .now) _ (bytes-known (s .args .m .now) (λ i l. omega (arith, c .before .before .before .before .before .before .before .before .shared-slice-known2 .given i))) (c .before .before .before .before .read .ensures) (c .before .before .enum-told5 .given .1)
     (s .pre .message-room)
 
-refused-requires : tie.Need-refused-requires
-refused-requires c κs = search needs
+sent-nothing-requires : tie.Need-sent-nothing-requires
+sent-nothing-requires c κs = search needs
 
 same-length : tie.Need-same-length
 same-length c = search needs
@@ -168,7 +168,7 @@ returns-8 : tie.Need-returns-8
 returns-8 c =
     let a = c .before .before .before .before .before .before .before .before .before .before .args in
     nothing-asked (lent (a .connections .now) (a .leases .now) (a .allowances .now)) (a .time) (a .c) (a .random .now) (a .m .now) (a .reply .now) (a .relay .now) (c .before .before .read .result) (c .before .before .read .ensures) _ (c .before .match .keys8)
-    (nothing-done (a .connections .now) (a .leases .now) (a .allowances .now) (a .reply .now) (a .relay .now) (a .c) (c .refused .result) (c .refused .ensures))
+    (nothing-done (a .connections .now) (a .leases .now) (a .allowances .now) (a .reply .now) (a .relay .now) (a .c) (c .sent-nothing .result) (c .sent-nothing .ensures))
 
 pub handle-spec : {M : Type 1} → statement M
 handle-spec =
@@ -189,7 +189,7 @@ handle-spec =
     end-requires
     enum-told-5
     send-requires
-    refused-requires
+    sent-nothing-requires
     same-length
     returns
     same-length-2

@@ -7,8 +7,8 @@ use Rattle.handlers.proofs.sessions.answer_version.Tie as tie
 set-open-requires : tie.Need-set-open-requires
 set-open-requires c κs = search needs
 
-refused-requires : tie.Need-refused-requires
-refused-requires c κs = search needs
+sent-nothing-requires : tie.Need-sent-nothing-requires
+sent-nothing-requires c κs = search needs
 
 same-length : tie.Need-same-length
 same-length c = search needs
@@ -16,7 +16,7 @@ same-length c = search needs
 returns : tie.Need-returns
 returns c ls al reply relay =
     let a = c .before .before .before .before .before .before .before .args in
-    version-taken (a .connections .now) ls al reply relay (a .c) (a .ok) _ _ (c .before .before .before .before .before .if1 .taken) (c .refused .ensures) (c .before .before .before .set-open .ensures)
+    version-taken (a .connections .now) ls al reply relay (a .c) (a .ok) _ _ (c .before .before .before .before .before .if1 .taken) (c .sent-nothing .ensures) (c .before .before .before .set-open .ensures)
 
 clear-requires : tie.Need-clear-requires
 clear-requires c κs = search needs
@@ -37,7 +37,7 @@ answer-version-spec =
     tie.close
     (tie.spec
     set-open-requires
-    refused-requires
+    sent-nothing-requires
     same-length
     returns
     clear-requires

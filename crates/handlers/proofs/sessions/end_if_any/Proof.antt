@@ -21,8 +21,8 @@ returns c ls al reply =
     let a = c .before .before .before .before .before .before .before .before .before .before .before .before .args in
     ended-if-any (a .connections .now) ls al reply (a .relay .now) (a .c) _ _ (c .before .before .before .before .before .before .before .before .has-session .ensures) (c .before .before .before .before .before .before .before .if1 .taken) (c .before .before .before .before .end .ensures ls al reply)
 
-refused-requires : tie.Need-refused-requires
-refused-requires c κs = search needs
+sent-nothing-requires : tie.Need-sent-nothing-requires
+sent-nothing-requires c κs = search needs
 
 same-length-3 : tie.Need-same-length-3
 same-length-3 c = search needs
@@ -30,7 +30,7 @@ same-length-3 c = search needs
 returns-2 : tie.Need-returns-2
 returns-2 c ls al reply =
     let a = c .before .before .before .before .before .before .args in
-    ended-if-none (a .connections .now) ls al reply (a .relay .now) (a .c) _ _ (c .before .before .has-session .ensures) (c .before .if1 .left) (c .refused .ensures)
+    ended-if-none (a .connections .now) ls al reply (a .relay .now) (a .c) _ _ (c .before .before .has-session .ensures) (c .before .if1 .left) (c .sent-nothing .ensures)
 
 pub end-if-any-spec : {M : Type 1} → statement M
 end-if-any-spec =
@@ -41,6 +41,6 @@ end-if-any-spec =
     same-length
     same-length-2
     returns
-    refused-requires
+    sent-nothing-requires
     same-length-3
     returns-2)

@@ -9,8 +9,8 @@ use Rattle.relay.proofs.fresh.crondelith_fresh.Tie as tie
 refusal-requires : tie.Need-refusal-requires
 refusal-requires c κs = search needs
 
-refused-requires : tie.Need-refused-requires
-refused-requires c κs = search needs
+sent-nothing-requires : tie.Need-sent-nothing-requires
+sent-nothing-requires c κs = search needs
 
 same-length : tie.Need-same-length
 same-length c = search needs
@@ -24,7 +24,7 @@ same-length-3 c = search needs
 returns : tie.Need-returns
 returns c =
     let a = c .before .before .before .before .before .before .before .before .before .args in
-    start-refused (lent (a .connections .now) (a .leases .now) (a .allowances .now)) (a .time) _ (c .before .before .refusal .ensures) (c .before .if1 .taken) _ (c .refused .ensures)
+    start-refused (lent (a .connections .now) (a .leases .now) (a .allowances .now)) (a .time) _ (c .before .before .refusal .ensures) (c .before .if1 .taken) _ (c .sent-nothing .ensures)
 
 fresh-connections-requires : tie.Need-fresh-connections-requires
 fresh-connections-requires c κs =
@@ -41,8 +41,8 @@ fresh-allowances-requires c κs =
     let a = c .before .before .before .before .before .before .before .before .before .before .before .before .before .before .before .before .before .args in
     start-sized (lent (a .connections .now) (a .leases .now) (a .allowances .now)) (a .time) _ (c .before .before .before .before .before .before .before .before .before .before .refusal .ensures) (c .before .before .before .before .before .before .before .before .before .if1 .left) .allowances
 
-refused-requires-2 : tie.Need-refused-requires-2
-refused-requires-2 c κs = search needs
+sent-nothing-requires-2 : tie.Need-sent-nothing-requires-2
+sent-nothing-requires-2 c κs = search needs
 
 same-length-4 : tie.Need-same-length-4
 same-length-4 c = search needs
@@ -56,7 +56,7 @@ same-length-6 c = search needs
 returns-2 : tie.Need-returns-2
 returns-2 c =
     let a = c .before .before .before .before .before .before .before .before .before .before .before .before .before .before .before .before .before .before .before .before .before .args in
-    start-done (lent (a .connections .now) (a .leases .now) (a .allowances .now)) (a .time) _ (c .before .before .before .before .before .before .before .before .before .before .before .before .before .before .refusal .ensures) (c .before .before .before .before .before .before .before .before .before .before .before .before .before .if1 .left) _ _ _ _ (c .refused2 .ensures) (c .before .before .before .before .before .before .before .before .before .before .before .fresh-connections .ensures (a .time))
+    start-done (lent (a .connections .now) (a .leases .now) (a .allowances .now)) (a .time) _ (c .before .before .before .before .before .before .before .before .before .before .before .before .before .before .refusal .ensures) (c .before .before .before .before .before .before .before .before .before .before .before .before .before .if1 .left) _ _ _ _ (c .sent-nothing2 .ensures) (c .before .before .before .before .before .before .before .before .before .before .before .fresh-connections .ensures (a .time))
     (c .before .before .before .before .before .before .before .fresh-leases .ensures (a .time)) (c .before .before .before .fresh-allowances .ensures)
 
 pub crondelith-fresh-spec : {M : Type 1} → statement M
@@ -64,7 +64,7 @@ crondelith-fresh-spec =
     tie.close
     (tie.spec
     refusal-requires
-    refused-requires
+    sent-nothing-requires
     same-length
     same-length-2
     same-length-3
@@ -72,7 +72,7 @@ crondelith-fresh-spec =
     fresh-connections-requires
     fresh-leases-requires
     fresh-allowances-requires
-    refused-requires-2
+    sent-nothing-requires-2
     same-length-4
     same-length-5
     same-length-6

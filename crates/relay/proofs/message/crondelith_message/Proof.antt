@@ -12,8 +12,8 @@ use Rattle.relay.proofs.message.crondelith_message.Tie as tie
 refusal-requires : tie.Need-refusal-requires
 refusal-requires c κs = search needs
 
-refused-requires : tie.Need-refused-requires
-refused-requires c κs = search needs
+sent-nothing-requires : tie.Need-sent-nothing-requires
+sent-nothing-requires c κs = search needs
 
 same-length : tie.Need-same-length
 same-length c = search needs
@@ -33,7 +33,7 @@ same-length-5 c = search needs
 returns : tie.Need-returns
 returns c =
     let a = c .before .before .before .before .before .before .before .before .before .before .before .before .before .before .before .args in
-    refused-way (lent (a .connections .now) (a .leases .now) (a .allowances .now)) (message (a .time) (a .connection) (a .m .now) (a .random .now) (a .reply .now) (a .relay .now)) (c .before .before .refusal .result) (c .before .before .refusal .ensures) (c .before .if1 .taken) (c .refused .result) (c .refused .ensures)
+    refused-way (lent (a .connections .now) (a .leases .now) (a .allowances .now)) (message (a .time) (a .connection) (a .m .now) (a .random .now) (a .reply .now) (a .relay .now)) (c .before .before .refusal .result) (c .before .before .refusal .ensures) (c .before .if1 .taken) (c .sent-nothing .result) (c .sent-nothing .ensures)
 
 cast-c : tie.Need-cast-c
 cast-c c =
@@ -79,7 +79,7 @@ crondelith-message-spec =
     tie.close
     (tie.spec
     refusal-requires
-    refused-requires
+    sent-nothing-requires
     same-length
     same-length-2
     same-length-3

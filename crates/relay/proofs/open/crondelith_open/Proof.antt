@@ -12,8 +12,8 @@ use Rattle.relay.proofs.open.crondelith_open.Tie as tie
 refusal-requires : tie.Need-refusal-requires
 refusal-requires c κs = search needs
 
-refused-requires : tie.Need-refused-requires
-refused-requires c κs = search needs
+sent-nothing-requires : tie.Need-sent-nothing-requires
+sent-nothing-requires c κs = search needs
 
 same-length : tie.Need-same-length
 same-length c = search needs
@@ -30,7 +30,7 @@ same-length-4 c = search needs
 returns : tie.Need-returns
 returns c =
     let a = c .before .before .before .before .before .before .before .before .before .before .before .args in
-    refused-way (lent (a .connections .now) (a .leases .now) (a .allowances .now)) (opening (a .time) (a .connection) (a .reply .now)) _ (c .before .before .refusal .ensures) (c .before .if1 .taken) _ (c .refused .ensures)
+    refused-way (lent (a .connections .now) (a .leases .now) (a .allowances .now)) (opening (a .time) (a .connection) (a .reply .now)) _ (c .before .before .refusal .ensures) (c .before .if1 .taken) _ (c .sent-nothing .ensures)
 
 cast-accept : tie.Need-cast-accept
 cast-accept c =
@@ -66,7 +66,7 @@ crondelith-open-spec =
     tie.close
     (tie.spec
     refusal-requires
-    refused-requires
+    sent-nothing-requires
     same-length
     same-length-2
     same-length-3
