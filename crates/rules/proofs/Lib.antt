@@ -1,6 +1,5 @@
--- The laws of the rules. For readers: Laws, MessageLaws, Leases, Charges, Room, Disconnects, Demand3, Examples. The others serve these.
+-- The laws of the rules. For readers: Laws, MessageLaws, Leases, Charges, Room, Disconnects, Demand3. The others serve these.
 pub mod Sizes
-pub mod Examples
 pub mod Searches
 pub mod Records
 pub mod Allowances

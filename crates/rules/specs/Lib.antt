@@ -12,5 +12,3 @@ pub mod Step
 pub mod Runs
 pub mod Demand3
 pub mod Laws
-pub mod Computed
-pub mod Examples
