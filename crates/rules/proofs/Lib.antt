@@ -2,6 +2,7 @@
 pub mod Sizes
 pub mod Searches
 pub mod Records
+pub mod Same
 pub mod Allowances
 pub mod Fresh
 pub mod Connections
@@ -12,6 +13,7 @@ pub mod Charges
 pub mod Answers
 pub mod Decisions
 pub mod Leases
+pub mod Reading
 pub mod Plans
 pub mod Within
 pub mod Sessions
@@ -20,5 +22,8 @@ pub mod Room
 pub mod Disconnects
 pub mod Metered
 pub mod Demand3
+pub mod Alike
+pub mod Neighbours
+pub mod Keys
 pub mod Laws
 pub mod MessageLaws

@@ -11,4 +11,6 @@ pub mod Checks
 pub mod Step
 pub mod Runs
 pub mod Demand3
+pub mod Bytes
+pub mod Reading
 pub mod Laws

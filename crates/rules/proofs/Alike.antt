@@ -1,0 +1,242 @@
+-- Two tables that a call finds alike: it gets the same answer and sends the same from both, and what it leaves is alike again.
+-- Assumes nothing.
+use Prim.Native.Nat.{ℕ, zero, suc, _≤_, _<_}
+use mathlib.Core.Path.{_≡_, refl, sym, ap, _∙_, subst}
+use mathlib.Core.Bool.{Bool}
+use mathlib.Core.Option.{Option, none, some}
+use mathlib.Core.List.{List}
+use native.Mathlib.Omega.{arith}
+use lib.Dec.{eqb, ltb}
+use Rattle.octets.specs.Octets.{if_then_else_}
+use Rattle.svsc.specs.Messages.{Message, ProtocolVersion, VersionAnswer, LeaseRequest, LeaseRequestWithCookie, LeaseRefused, LeaseGranted, ExtensionRequest, ExtensionRefused, ExtensionGranted, EstablishRequest, EstablishRefused, Established, EstablishNotification, SessionEnd, SessionEndNotification, DataSend, DataReceive, Keepalive, decode}
+use Rattle.rules.specs.Sizes.{rowsPerPartner}
+use Rattle.rules.specs.Searches.{firstRow, endRow}
+use Rattle.rules.specs.Tables.{Tables, partnerOf, ownerOf, connectionAt, keysAt, bucketOf, clock, sized, hasSession}
+use Rattle.rules.specs.Leases.{LeaseDecision, holdsLease, noSpareRow, cookieInUse, noFreeId, granted, firstFree, idTaken, decideLease, leaseEnd, grant, rowToExtend, release}
+use Rattle.rules.specs.Sessions.{EstablishDecision, refusedWith, establishedWith, decideEstablish, clear, await, join, leave, endSession, establish}
+use Rattle.rules.specs.Calls.{Call, opening, message, closing, timeOf, callerOf, Outcome}
+use Rattle.rules.specs.Plans.{Plan, doNothing, planOpen, planVersionAnswer, planLease, planExtension, planEstablish, planEnd, planData, planClose, planMessage, plan}
+use Rattle.rules.specs.Charges.{price, callerLevel}
+use Rattle.rules.specs.Checks.{wrongTime, wrongState, notPermitted, noSession, aboveLevel, firstEight, checks, firstApplying, check}
+use Rattle.rules.specs.Step.{outcome, done, step}
+use Rattle.rules.specs.Bytes.{SameAt}
+use Rattle.rules.specs.Reading.{SameSizes, SameTold}
+use Rattle.rules.proofs.Same.{same-put}
+use Rattle.rules.proofs.Reading.{by-both, InLeases, state-same, peer-same, has-session-same, row-to-extend-same, lease-same, first-free-same, establish-same, release-same}
+
+-- ---- plans
+
+-- the same is sent, to the same connection; afterwards the connection tables are the same at the places of which P holds, and so are the
+-- lease rows of partners of which Q holds
+pub record SamePlan (Q P : ℕ → Type 0) (x y : Plan) : Type 0 where
+  pub reply : x .reply ≡ y .reply
+  pub relay : x .relay ≡ y .relay
+  pub destination : x .destination ≡ y .destination
+  pub disconnect : x .disconnect ≡ y .disconnect
+  pub connections : SameAt P (x .connections) (y .connections)
+  pub leases : SameAt (InLeases Q) (x .leases) (y .leases)
+
+-- plans that differ in the tables alone
+tables-alike : {Q P : ℕ → Type 0} {m n : List ℕ} {d : ℕ} {u : Bool} {cs ds ls ms : List ℕ}
+    → SameAt P cs ds → SameAt (InLeases Q) ls ms
+    → SamePlan Q P
+    (record { reply = m; relay = n; destination = d; disconnect = u; connections = cs; leases = ls })
+    (record { reply = m; relay = n; destination = d; disconnect = u; connections = ds; leases = ms })
+tables-alike s t = record { reply = refl; relay = refl; destination = refl; disconnect = refl; connections = s; leases = t }
+
+module _
+    (Q P : ℕ → Type 0) (heads : (c i : ℕ) → Q (partnerOf c) → connectionAt c ≤ i → i < keysAt c → P i)
+    (a b : Tables) (now c : ℕ) (mine : Q (partnerOf c))
+    (s : SameAt P (a .connections) (b .connections)) (t : SameAt (InLeases Q) (a .leases) (b .leases))
+    (until : leaseEnd (a .allowances) now ≡ leaseEnd (b .allowances) now)
+  where
+    open Tables a using (connections as cs, leases as ls)
+    open Tables b using (connections as ds, leases as ms)
+
+    abbrev Agree : Plan → Plan → Type 0
+    Agree = SamePlan Q P
+
+    nothing-alike : Agree (doNothing a) (doNothing b)
+    nothing-alike = tables-alike s t
+
+    open-alike : Agree (planOpen a c) (planOpen b c)
+    unfolding planOpen await clear
+    open-alike = tables-alike (same-put (same-put s _ _) _ _) t
+
+    answer-alike : (ok : ℕ) → Agree (planVersionAnswer a c ok) (planVersionAnswer b c ok)
+    unfolding planVersionAnswer clear
+    answer-alike ok =
+        by-both Agree (eqb ok 1) (eqb ok 1) refl (λ e. tables-alike (same-put s _ _) t) (λ e. tables-alike (same-put s _ _) t)
+
+    decided-lease : (d : LeaseDecision) → Agree (planLease a now c d) (planLease b now c d)
+    unfolding planLease grant
+    decided-lease holdsLease = tables-alike s t
+    decided-lease noSpareRow = tables-alike s t
+    decided-lease cookieInUse = tables-alike s t
+    decided-lease noFreeId = tables-alike s t
+    decided-lease (granted row id cookie) =
+        rw (← until) (tables-alike s (same-put (same-put (same-put (same-put t _ _) _ _) _ _) _ _))
+
+    lease-alike : (random : List ℕ) → firstFree ls now random ≡ firstFree ms now random
+        → Agree (planLease a now c (decideLease ls now c random)) (planLease b now c (decideLease ms now c random))
+    lease-alike random e = rw (← lease-same Q ls ms t now c mine random e) (decided-lease (decideLease ls now c random))
+
+    extension-alike : (cookie : List ℕ) → Agree (planExtension a now c cookie) (planExtension b now c cookie)
+    unfolding planExtension
+    extension-alike cookie =
+        rw (← row-to-extend-same Q ls ms t now c mine cookie, ← until)
+        (by-both Agree (ltb (rowToExtend ls now c cookie) (endRow (partnerOf c))) _ refl
+        (λ e. tables-alike s (same-put t _ _))
+        (λ e. tables-alike s t))
+
+    decided-establish : (id : ℕ) (random : List ℕ) (d : EstablishDecision) → Agree (planEstablish a c id random d) (planEstablish b c id random d)
+    unfolding planEstablish establish join
+    decided-establish id random (refusedWith status) = tables-alike s t
+    decided-establish id random (establishedWith h) =
+        tables-alike (same-put (same-put (same-put (same-put s _ _) _ _) _ _) _ _) t
+
+    establish-alike : (id : ℕ) (random : List ℕ)
+        → Agree
+        (planEstablish a c id random (decideEstablish cs ls now c id))
+        (planEstablish b c id random (decideEstablish ds ms now c id))
+    establish-alike id random =
+        rw (← establish-same Q P heads cs ds ls ms s t now c id mine) (decided-establish id random (decideEstablish cs ls now c id))
+
+    end-alike : Agree (planEnd a c) (planEnd b c)
+    unfolding planEnd endSession leave join
+    end-alike =
+        rw (← peer-same Q P heads cs ds s c mine)
+        (tables-alike (same-put (same-put (same-put (same-put s _ _) _ _) _ _) _ _) t)
+
+    data-alike : (bytes : List ℕ) → Agree (planData a c bytes) (planData b c bytes)
+    unfolding planData
+    data-alike bytes = rw (← peer-same Q P heads cs ds s c mine) (tables-alike s t)
+
+    close-alike : Agree (planClose a c) (planClose b c)
+    unfolding planClose release clear
+    close-alike =
+        let ended : Agree (if hasSession cs c then planEnd a c else doNothing a) (if hasSession ds c then planEnd b c else doNothing b) =
+        by-both Agree (hasSession cs c) _ (has-session-same Q P heads cs ds s c mine) (λ e. end-alike) (λ e. nothing-alike) in
+        record {
+          reply = refl;
+          relay = ended .relay;
+          destination = ended .destination;
+          disconnect = refl;
+          connections = same-put (ended .connections) _ _;
+          leases =
+              release-same Q c rowsPerPartner (firstRow (partnerOf c))
+              (λ i l u. subst Q (let e : partnerOf c ≡ ownerOf i = omega arith in e) mine) ls ms t;
+        }
+
+    message-alike : (random : List ℕ) → firstFree ls now random ≡ firstFree ms now random → (o : Option Message)
+        → Agree (planMessage a now c random o) (planMessage b now c random o)
+    unfolding planMessage
+    message-alike random e (some (VersionAnswer ok)) = answer-alike ok
+    message-alike random e (some LeaseRequest) = lease-alike random e
+    message-alike random e (some (LeaseRequestWithCookie cookie)) = lease-alike random e
+    message-alike random e (some (ExtensionRequest cookie)) = extension-alike cookie
+    message-alike random e (some (EstablishRequest id)) = establish-alike id random
+    message-alike random e (some SessionEnd) = end-alike
+    message-alike random e (some (DataSend bytes)) = data-alike bytes
+    message-alike random e (some Keepalive) = nothing-alike
+    message-alike random e (some (ProtocolVersion major minor)) = nothing-alike
+    message-alike random e (some LeaseRefused) = nothing-alike
+    message-alike random e (some (LeaseGranted id cookie expiration)) = nothing-alike
+    message-alike random e (some ExtensionRefused) = nothing-alike
+    message-alike random e (some (ExtensionGranted expiration)) = nothing-alike
+    message-alike random e (some (EstablishRefused id status)) = nothing-alike
+    message-alike random e (some (Established id session peerId key)) = nothing-alike
+    message-alike random e (some (EstablishNotification session peerId key)) = nothing-alike
+    message-alike random e (some SessionEndNotification) = nothing-alike
+    message-alike random e (some (DataReceive bytes)) = nothing-alike
+    message-alike random e none = nothing-alike
+
+-- plans that send the same tell the same
+pub sends-same : {Q P : ℕ → Type 0} (a b : Tables) (call : Call) {x y : Plan} → SamePlan Q P x y → SameTold (done a call x) (done b call y)
+unfolding done
+sends-same a b call e = record {
+  answer = rw (e .reply, e .relay, e .destination, e .disconnect);
+  reply = rw (e .reply);
+  relay = rw (e .relay);
+}
+
+-- ---- the checks that read connection records
+
+module _
+    (Q P : ℕ → Type 0) (heads : (c i : ℕ) → Q (partnerOf c) → connectionAt c ≤ i → i < keysAt c → P i)
+    (cs ds : List ℕ) (s : SameAt P cs ds)
+  where
+    wrong-state-same : (call : Call) → Q (callerOf call) → wrongState cs call ≡ wrongState ds call
+    unfolding wrongState
+    wrong-state-same (opening now c reply) h = rw (state-same Q P heads cs ds s c h)
+    wrong-state-same (message now c m random reply relay) h = rw (state-same Q P heads cs ds s c h)
+    wrong-state-same (closing now c relay) h = rw (state-same Q P heads cs ds s c h)
+
+    not-permitted-same : (call : Call) → Q (callerOf call) → notPermitted cs call ≡ notPermitted ds call
+    unfolding notPermitted
+    not-permitted-same (opening now c reply) h = refl
+    not-permitted-same (message now c m random reply relay) h = rw (state-same Q P heads cs ds s c h)
+    not-permitted-same (closing now c relay) h = refl
+
+    no-session-same : (call : Call) → Q (callerOf call) → noSession cs call ≡ noSession ds call
+    unfolding noSession
+    no-session-same (opening now c reply) h = refl
+    no-session-same (message now c m random reply relay) h = rw (has-session-same Q P heads cs ds s c h)
+    no-session-same (closing now c relay) h = refl
+
+-- ---- a call
+
+-- Q holds of the partners whose lease rows are the same, P of the places of the connection table that are.
+pub record Alike (Q P : ℕ → Type 0) (a b : Tables) (call : Call) : Type 0 where
+  pub mine : Q (callerOf call)
+  pub heads : (c i : ℕ) → Q (partnerOf c) → connectionAt c ≤ i → i < keysAt c → P i
+  pub sizes : SameSizes a b
+  pub connections : SameAt P (a .connections) (b .connections)
+  pub leases : SameAt (InLeases Q) (a .leases) (b .leases)
+  pub live-ids : (id : ℕ) → idTaken (a .leases) (timeOf call) id ≡ idTaken (b .leases) (timeOf call) id
+  pub allowance : bucketOf (a .allowances) (callerOf call) ≡ bucketOf (b .allowances) (callerOf call)
+  pub clocks : clock (a .allowances) ≡ clock (b .allowances)
+
+module _ {Q P : ℕ → Type 0} {a b : Tables} {call : Call} (x : Alike Q P a b call) where
+  open Tables a using (connections as cs, leases as ls, allowances as al)
+  open Tables b using (connections as ds, leases as ms, allowances as bl)
+
+  level-same : callerLevel al call ≡ callerLevel bl call
+  unfolding callerLevel
+  level-same = rw (x .allowance)
+
+  end-same : (now : ℕ) → leaseEnd al now ≡ leaseEnd bl now
+  unfolding leaseEnd
+  end-same now = refl
+
+  sized-same : sized a ≡ sized b
+  unfolding sized
+  sized-same = rw (x .sizes .connections, x .sizes .leases, x .sizes .allowances)
+
+  checks-same : checks a call ≡ checks b call
+  unfolding checks firstEight wrongTime aboveLevel price
+  checks-same =
+      rw (
+        sized-same,
+        x .clocks,
+        wrong-state-same Q P (x .heads) cs ds (x .connections) call (x .mine),
+        not-permitted-same Q P (x .heads) cs ds (x .connections) call (x .mine),
+        no-session-same Q P (x .heads) cs ds (x .connections) call (x .mine),
+        level-same,
+      )
+
+  pub check-same : check a call ≡ check b call
+  unfolding check
+  check-same = ap (firstApplying 1) checks-same
+
+  plan-of : (k : Call) → Q (callerOf k) → timeOf k ≡ timeOf call → SamePlan Q P (plan a k) (plan b k)
+  unfolding plan
+  plan-of (opening now c reply) q t = open-alike Q P (x .heads) a b now c q (x .connections) (x .leases) (end-same now)
+  plan-of (message now c m random reply relay) q t =
+      message-alike Q P (x .heads) a b now c q (x .connections) (x .leases) (end-same now) random
+      (first-free-same Q ls ms now (rw t (x .live-ids)) random)
+      (decode m)
+  plan-of (closing now c relay) q t = close-alike Q P (x .heads) a b now c q (x .connections) (x .leases) (end-same now)
+
+  pub plan-same : SamePlan Q P (plan a call) (plan b call)
+  plan-same = plan-of call (x .mine) refl
