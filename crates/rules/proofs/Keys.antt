@@ -2,15 +2,25 @@
 -- Assumes nothing.
 use Prim.Native.Nat.{ℕ, zero, suc, _+_, _≤_, _<_}
 use mathlib.Core.Path.{_≡_, refl, sym, ap, _∙_}
+use mathlib.Core.Logic.{_≢_, _⊎_, inl, inr}
+use mathlib.Core.Bool.{Bool, true, false}
+use mathlib.Core.Option.{Option, none, some}
 use mathlib.Core.List.{List}
 use native.Mathlib.Omega.{arith}
+use lib.ListN.{length, length-append, length-take, length-drop}
+use Rattle.octets.specs.Octets.{if_then_else_, part, numberAt}
+use Rattle.svsc.specs.Messages.{Message, VersionAnswer, LeaseRequest, LeaseRequestWithCookie, ExtensionRequest, EstablishRequest, SessionEnd, DataSend, Keepalive, ProtocolVersion, LeaseRefused, LeaseGranted, ExtensionRefused, ExtensionGranted, EstablishRefused, Established, EstablishNotification, SessionEndNotification, DataReceive, encode, lengthIs, when, readings, decode, typeOf}
 use Rattle.rules.specs.Tables.{Tables}
-use Rattle.rules.specs.Calls.{Call}
-use Rattle.rules.specs.Checks.{check}
-use Rattle.rules.specs.Charges.{price}
+use Rattle.rules.specs.Calls.{Call, message, Outcome}
+use Rattle.rules.specs.Sessions.{EstablishDecision, refusedWith, establishedWith, decideEstablish}
+use Rattle.rules.specs.Plans.{Plan, doNothing, planEstablish, planMessage, plan}
+use Rattle.rules.specs.Charges.{cost, price, callerLevel, charge}
+use Rattle.rules.specs.Checks.{wrongTime, wrongState, wrongLengths, notFromPeer, notPermitted, noSession, aboveLevel, firstEight, checks, check}
 use Rattle.rules.specs.Step.{outcome, done, step}
+use Rattle.rules.specs.Bytes.{SameAt}
 use Rattle.rules.specs.Reading.{NotKeys, SameButKeys, SameTold}
-use Rattle.rules.proofs.Same.{same-refl, same-all}
+use Rattle.rules.proofs.Messages.{decode-type}
+use Rattle.rules.proofs.Same.{same-refl, same-part, same-all}
 use Rattle.rules.proofs.Alike.{Alike, check-same, plan-same, sends-same}
 
 -- ---- what stands in a record
@@ -40,3 +50,117 @@ module _ (a b : Tables) (call : Call) (same : SameButKeys a b) where
             record { connections = x .connections; leases = same-all (x .leases); allowances = rw (same .allowances) },
           )
       go (suc n) = (record { answer = refl; reply = refl; relay = refl }, same)
+
+-- ---- the random bytes
+
+module _ (tables : Tables) (now c : ℕ) (m r s reply relay : List ℕ) (long : length r ≡ length s) where
+  abbrev first : Call
+  first = message now c m r reply relay
+
+  abbrev second : Call
+  second = message now c m s reply relay
+
+  check-random : check tables first ≡ check tables second
+  unfolding check checks firstEight wrongTime wrongState wrongLengths notFromPeer notPermitted noSession aboveLevel callerLevel price cost
+  check-random = rw long
+
+  -- whatever is looked at of the outcomes is the same, if it is where the call is done
+  by-plans : {A : Type 0} (f : Outcome → A) → f (done tables first (plan tables first)) ≡ f (done tables second (plan tables second))
+      → f (step tables first) ≡ f (step tables second)
+  unfolding step
+  by-plans f e = rw check-random (go (check tables second))
+    where
+      go : (n : ℕ) → f (outcome n tables first) ≡ f (outcome n tables second)
+      go zero = e
+      go (suc n) = refl
+
+  -- Only a lease and an establish depend on the random bytes.
+  pub random-unused : typeOf m ≢ 2 → typeOf m ≢ 6 → step tables first ≡ step tables second
+  unfolding done price cost charge plan planMessage encode
+  random-unused two six = by-plans (λ o. o) (rw (go (decode m) (decode-type m)))
+    where
+      go : (o : Option Message) → ((x : Message) → o ≡ some x → typeOf m ≡ typeOf (encode x))
+          → planMessage tables now c r o ≡ planMessage tables now c s o
+      go (some (VersionAnswer ok)) t = refl
+      go (some LeaseRequest) t = absurd (two (t LeaseRequest refl))
+      go (some (LeaseRequestWithCookie cookie)) t = absurd (two (t (LeaseRequestWithCookie cookie) refl))
+      go (some (ExtensionRequest cookie)) t = refl
+      go (some (EstablishRequest id)) t = absurd (six (t (EstablishRequest id) refl))
+      go (some SessionEnd) t = refl
+      go (some (DataSend bytes)) t = refl
+      go (some Keepalive) t = refl
+      go (some (ProtocolVersion major minor)) t = refl
+      go (some LeaseRefused) t = refl
+      go (some (LeaseGranted id cookie expiration)) t = refl
+      go (some ExtensionRefused) t = refl
+      go (some (ExtensionGranted expiration)) t = refl
+      go (some (EstablishRefused id status)) t = refl
+      go (some (Established id session peerId key)) t = refl
+      go (some (EstablishNotification session peerId key)) t = refl
+      go (some SessionEndNotification) t = refl
+      go (some (DataReceive bytes)) t = refl
+      go none t = refl
+
+  -- ---- an establish request
+
+  id : ℕ
+  id = numberAt m 1 4
+
+  -- by its length and by what is decided, which no random byte influences
+  plan-of : Bool → EstablishDecision → List ℕ → Plan
+  plan-of fits d random = if fits then planEstablish tables c id random d else doNothing tables
+
+  decided : EstablishDecision
+  decided = decideEstablish (tables .connections) (tables .leases) now c id
+
+  is-plan : typeOf m ≡ 6 → (random : List ℕ)
+      → plan tables (message now c m random reply relay) ≡ plan-of (lengthIs m 5) decided random
+  unfolding plan planMessage decode readings plan-of decided id
+  is-plan t random = rw t (go (lengthIs m 5))
+    where
+      go : (fits : Bool) → planMessage tables now c random (when fits (EstablishRequest (numberAt m 1 4))) ≡ plan-of fits decided random
+      go true = refl
+      go false = refl
+
+  module _ (t : typeOf m ≡ 6) where
+    -- What the caller is told depends on bytes 0-47 alone, what the holder is told on 0-15 and 48-79 alone, and the answer on none.
+    pub told-caller : SameAt (λ i. i < 48) r s → step tables first .reply ≡ step tables second .reply
+    unfolding done plan-of planEstablish encode
+    told-caller e = by-plans (λ o. o .reply) (rw (is-plan t r, is-plan t s, go (lengthIs m 5) decided))
+      where
+        go : (fits : Bool) (d : EstablishDecision) → plan-of fits d r .reply ≡ plan-of fits d s .reply
+        go false d = refl
+        go true (refusedWith status) = refl
+        go true (establishedWith h) =
+            rw (
+              same-part e 0 16 (λ i l u. omega arith),
+              same-part e 16 16 (λ i l u. omega arith),
+              same-part e 32 16 (λ i l u. omega arith),
+            )
+
+    pub told-holder : SameAt (λ i. (i < 16) ⊎ (48 ≤ i)) r s → step tables first .relay ≡ step tables second .relay
+    unfolding done plan-of planEstablish encode
+    told-holder e = by-plans (λ o. o .relay) (rw (is-plan t r, is-plan t s, go (lengthIs m 5) decided))
+      where
+        go : (fits : Bool) (d : EstablishDecision) → plan-of fits d r .relay ≡ plan-of fits d s .relay
+        go false d = refl
+        go true (refusedWith status) = refl
+        go true (establishedWith h) =
+            rw (
+              same-part e 0 16 (λ i l u. inl (omega arith)),
+              same-part e 48 16 (λ i l u. inr (omega arith)),
+              same-part e 64 16 (λ i l u. inr (omega arith)),
+            )
+
+    pub answered-alike : step tables first .answer ≡ step tables second .answer
+    unfolding done plan-of planEstablish encode
+    answered-alike = by-plans (λ o. o .answer) (rw (is-plan t r, is-plan t s) (go (lengthIs m 5) decided))
+      where
+        part-long : (at : ℕ) → length (part r at 16) ≡ length (part s at 16)
+        part-long at = unfold part in simp (length-take, length-drop, long)
+
+        go : (fits : Bool) (d : EstablishDecision)
+            → done tables first (plan-of fits d r) .answer ≡ done tables second (plan-of fits d s) .answer
+        go false d = refl
+        go true (refusedWith status) = refl
+        go true (establishedWith h) = simp (length-append, part-long)
