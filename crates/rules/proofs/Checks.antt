@@ -43,6 +43,29 @@ first-applies n (true ∷ xs) (suc k) h low = absurd (true≢false (low 0 (omega
 first-applies n (false ∷ xs) zero h low = absurd (false≢true h)
 first-applies n (false ∷ xs) (suc k) h low = omega (arith, first-applies (suc n) xs k h (λ i l. low (suc i) (omega arith)))
 
+-- And the other way: it applies, and none before it does.
+no-less : (n : ℕ) (xs : List Bool) (k : ℕ) → k < n → firstApplying n xs ≡ k → k ≡ 0
+unfolding firstApplying
+no-less n [] k l e = sym e
+no-less n (true ∷ xs) k l e = absurd (omega arith)
+no-less n (false ∷ xs) k l e = no-less (suc n) xs k (omega arith) e
+
+pub applied-first : (n : ℕ) (xs : List Bool) (k : ℕ) → firstApplying (suc n) xs ≡ suc n + k
+    → (getD xs k false ≡ true) × ((i : ℕ) → i < k → getD xs i false ≡ false)
+unfolding firstApplying
+applied-first n [] k e = absurd (omega arith)
+applied-first n (true ∷ xs) zero e = (refl, λ i l. absurd (omega arith))
+applied-first n (true ∷ xs) (suc k) e = absurd (omega arith)
+applied-first n (false ∷ xs) zero e =
+    let none = no-less (suc (suc n)) xs (suc n) (omega arith) (e ∙ omega arith) in absurd (omega arith)
+applied-first n (false ∷ xs) (suc k) e =
+    let rest = applied-first (suc n) xs k (e ∙ omega arith) in
+    (rest .0, earlier (rest .1))
+  where
+    earlier : ((i : ℕ) → i < k → getD xs i false ≡ false) → (i : ℕ) → i < suc k → getD (false ∷ xs) i false ≡ false
+    earlier f zero l = refl
+    earlier f (suc i) l = f i (omega arith)
+
 pub at-most : (n : ℕ) (xs : List Bool) → firstApplying (suc n) xs ≤ n + length xs
 unfolding firstApplying
 at-most n [] = omega arith

@@ -25,5 +25,6 @@ pub mod Demand3
 pub mod Alike
 pub mod Neighbours
 pub mod Keys
+pub mod Refusals
 pub mod Laws
 pub mod MessageLaws

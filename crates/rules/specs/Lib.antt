@@ -13,4 +13,5 @@ pub mod Runs
 pub mod Demand3
 pub mod Bytes
 pub mod Reading
+pub mod Refusals
 pub mod Laws

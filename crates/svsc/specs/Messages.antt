@@ -167,3 +167,9 @@ sentByPeers = false ∷ true ∷ true ∷ false ∷ true ∷ false ∷ true ∷ 
 -- a message that peers send: the relay's check 6
 unfoldable pub fromPeer : List ℕ → Bool
 fromPeer m = getD sentByPeers (typeOf m) false && isSome (decode m)
+
+-- the types that a row of a table by type has, the first of the row being type k
+unfoldable pub typesIn : ℕ → List Bool → List ℕ
+typesIn k [] = []
+typesIn k (true ∷ bs) = k ∷ typesIn (k + 1) bs
+typesIn k (false ∷ bs) = typesIn (k + 1) bs

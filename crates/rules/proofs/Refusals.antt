@@ -1,0 +1,165 @@
+-- Each check applies exactly if its sentence holds, and the answer's number is that of the first which applies. Assumes nothing.
+use Prim.Native.Nat.{ℕ, zero, suc, _+_, _-_, _≤_, _<_, max}
+use mathlib.Core.Path.{_≡_, refl, sym, ap, _∙_}
+use mathlib.Core.Logic.{_≢_, _⊎_, inl, inr, ⊎-elim, _↔_}
+use mathlib.Core.Bool.{Bool, true, false, not, _&&_, _||_, true≢false, false≢true}
+use mathlib.Core.Option.{Option, none, some}
+use mathlib.Core.List.{List, [], _∷_, map}
+use native.Mathlib.Omega.{arith}
+use lib.Dec.{eqb, leb, ltb}
+use lib.ListN.{length, getD}
+use borrow.Author.Tests.{ltb-true, lt-ltb, leb-true, le-leb, eqb-true, eq-eqb, not-true, not-false}
+use Rattle.octets.proofs.Tests.{both-left, both-right, by-test}
+use Rattle.svsc.specs.Messages.{Message, sentByPeers, typeOf, isSome, decode, fromPeer, typesIn}
+use Rattle.rules.specs.Sizes.{connectionCount, connectionsSize, leasesSize, allowancesSize, timeLimit, randomBytes, leastBuffer}
+use Rattle.rules.specs.Tables.{Tables, closed, awaiting, opened, state, inSession, hasSession, clock, sized}
+use Rattle.rules.specs.Calls.{Call, opening, message, closing, timeOf, connectionOf}
+use Rattle.rules.specs.Charges.{cost, price, callerLevel}
+use Rattle.rules.specs.Checks.{wrongTime, wrongState, wrongLengths, notFromPeer, permitted, permits, notPermitted, noSession, aboveLevel, firstEight, checks, check}
+use Rattle.rules.specs.Step.{step}
+use Rattle.rules.specs.Refusals.{Applies, RightSizes, InWrongState, OfWrongLengths, SentByPeer, NotSentByPeer, NotPermittedHere, WithoutSession, EachExactly}
+use Rattle.rules.proofs.Connections.{session-with}
+use Rattle.rules.proofs.Checks.{none-applies, all-pass, first-applies, applied-first, at-most}
+use Rattle.rules.proofs.Answers.{answer-is-check}
+
+-- ---- tests, and the statements that they decide
+
+eq-exactly : (a b : ℕ) → (eqb a b ≡ true) ↔ (a ≡ b)
+eq-exactly a b = (eqb-true a b, eq-eqb a b)
+
+lt-exactly : (a b : ℕ) → (ltb a b ≡ true) ↔ (a < b)
+lt-exactly a b = (ltb-true a b, lt-ltb a b)
+
+le-exactly : (a b : ℕ) → (leb a b ≡ true) ↔ (a ≤ b)
+le-exactly a b = (leb-true a b, le-leb a b)
+
+not-exactly : {A : Type 0} (t : Bool) → (t ≡ true) ↔ A → (not t ≡ true) ↔ (A → ⊥)
+not-exactly true e = ((λ h x. false≢true h), (λ n. absurd (n (e .0 refl))))
+not-exactly false e = ((λ h x. false≢true (e .1 x)), (λ n. refl))
+
+and-exactly : {A B : Type 0} (t u : Bool) → (t ≡ true) ↔ A → (u ≡ true) ↔ B → (t && u ≡ true) ↔ (A × B)
+and-exactly t u e f = ((λ h. (e .0 (both-left t u h), f .0 (both-right t u h))), (λ q. rw (e .1 (q .0)) (f .1 (q .1))))
+
+or-exactly : {A B : Type 0} (t u : Bool) → (t ≡ true) ↔ A → (u ≡ true) ↔ B → (t || u ≡ true) ↔ (A ⊎ B)
+or-exactly true u e f = ((λ h. inl (e .0 refl)), (λ q. refl))
+or-exactly false u e f = ((λ h. inr (f .0 h)), ⊎-elim (λ x. absurd (false≢true (e .1 x))) (λ y. f .1 y))
+
+false-exactly : (t : Bool) → (not t ≡ true) ↔ (t ≡ false)
+false-exactly true = ((λ h. absurd (false≢true h)), (λ h. absurd (true≢false h)))
+false-exactly false = ((λ h. refl), (λ h. refl))
+
+never : (false ≡ true) ↔ ⊥
+never = (false≢true, (λ x. absurd x))
+
+-- ---- each check
+
+right-sizes : (tables : Tables) → (sized tables ≡ true) ↔ RightSizes tables
+unfolding sized
+right-sizes tables =
+    let e = and-exactly _ _ (and-exactly _ _ (eq-exactly _ connectionsSize) (eq-exactly _ leasesSize)) (eq-exactly _ allowancesSize) in (
+      (λ h. let q = e .0 h in record { connections = q .0 .0; leases = q .0 .1; allowances = q .1 }),
+      (λ q. e .1 ((q .connections, q .leases), q .allowances)),
+    )
+
+read-exactly : (m : List ℕ) → (fromPeer m ≡ true) ↔ SentByPeer m
+unfolding fromPeer
+read-exactly m = and-exactly (getD sentByPeers (typeOf m) false) (isSome (decode m)) ((λ h. h), (λ h. h)) (go (decode m))
+  where
+    go : (o : Option Message) → (isSome o ≡ true) ↔ ((x : Message) × (o ≡ some x))
+    go none = ((λ h. absurd (false≢true h)), (λ q. absurd (let z : _≡_ {A = ℕ} 0 1 = cc (q .1) in omega arith)))
+    go (some x) = ((λ h. (x, refl)), (λ q. refl))
+
+session-exactly : (cs : List ℕ) (c : ℕ) → (not (hasSession cs c) ≡ true) ↔ ((d : ℕ) → inSession cs c d ≡ true → ⊥)
+unfolding hasSession
+session-exactly cs c = (
+  (λ h d s. true≢false (sym (session-with cs c d s) ∙ not-true _ h)),
+  (λ n. ⊎-elim (λ s. absurd (n _ s)) (λ s. rw s) (by-test (hasSession cs c))),
+)
+
+module _ (tables : Tables) where
+  open Tables tables using (connections as cs)
+
+  state-exactly : (call : Call) → (wrongState cs call ≡ true) ↔ InWrongState cs call
+  unfolding wrongState
+  state-exactly (opening now c reply) = not-exactly _ (eq-exactly (state cs c) closed)
+  state-exactly (message now c m random reply relay) = eq-exactly (state cs c) closed
+  state-exactly (closing now c relay) = eq-exactly (state cs c) closed
+
+  lengths-exactly : (call : Call) → (wrongLengths call ≡ true) ↔ OfWrongLengths call
+  unfolding wrongLengths
+  lengths-exactly (opening now c reply) = lt-exactly (length reply) leastBuffer
+  lengths-exactly (message now c m random reply relay) =
+      or-exactly _ _
+      (or-exactly _ _ (not-exactly _ (eq-exactly (length random) randomBytes)) (lt-exactly (length reply) leastBuffer))
+      (lt-exactly (length relay) (max leastBuffer (length m)))
+  lengths-exactly (closing now c relay) = lt-exactly (length relay) leastBuffer
+
+  peer-exactly : (call : Call) → (notFromPeer call ≡ true) ↔ NotSentByPeer call
+  unfolding notFromPeer
+  peer-exactly (opening now c reply) = never
+  peer-exactly (message now c m random reply relay) = not-exactly _ (read-exactly m)
+  peer-exactly (closing now c relay) = never
+
+  permitted-exactly : (call : Call) → (notPermitted cs call ≡ true) ↔ NotPermittedHere cs call
+  unfolding notPermitted
+  permitted-exactly (opening now c reply) = never
+  permitted-exactly (message now c m random reply relay) = false-exactly (permits (state cs c) (typeOf m))
+  permitted-exactly (closing now c relay) = never
+
+  without-exactly : (call : Call) → (noSession cs call ≡ true) ↔ WithoutSession cs call
+  unfolding noSession
+  without-exactly (opening now c reply) = never
+  without-exactly (message now c m random reply relay) =
+      and-exactly _ _ (or-exactly _ _ (eq-exactly (typeOf m) 9) (eq-exactly (typeOf m) 11)) (session-exactly cs c)
+  without-exactly (closing now c relay) = never
+
+  pub each-exactly : (call : Call) → EachExactly tables call
+  unfolding checks firstEight wrongTime aboveLevel callerLevel price
+  each-exactly call = record {
+    one = not-exactly (sized tables) (right-sizes tables);
+    two = or-exactly _ _ (le-exactly timeLimit (timeOf call)) (lt-exactly (timeOf call) (clock (tables .allowances)));
+    three = le-exactly connectionCount (connectionOf call);
+    four = state-exactly call;
+    five = lengths-exactly call;
+    six = peer-exactly call;
+    seven = permitted-exactly call;
+    eight = without-exactly call;
+    nine = lt-exactly _ (cost call);
+  }
+
+-- "awaiting permits 1 only, open permits 2, 4, 6, 9, 11, 13": the table of three rows and fourteen columns
+pub permitted-types :
+    (map (typesIn 0) permitted ≡ [] ∷ (1 ∷ []) ∷ (2 ∷ 4 ∷ 6 ∷ 9 ∷ 11 ∷ 13 ∷ []) ∷ []) × (map length permitted ≡ 14 ∷ 14 ∷ 14 ∷ [])
+unfolding typesIn
+permitted-types = (refl, refl)
+
+-- ---- "the first that applies decides"
+
+module _ (tables : Tables) (call : Call) where
+  pub number-at-most : step tables call .answer .number ≤ 9
+  unfolding check checks firstEight
+  number-at-most = rw (answer-is-check tables call) (at-most 0 (checks tables call))
+
+  fails : (i : ℕ) → (Applies (suc i) tables call → ⊥) → getD (checks tables call) i false ≡ false
+  fails i n =
+      let e : suc i - 1 ≡ i = omega arith in
+      ⊎-elim (λ h. absurd ((rw e at n) h)) (λ h. h) (by-test (getD (checks tables call) i false))
+
+  -- Done exactly if no check applies,
+  pub done-exactly : (step tables call .answer .number ≡ 0) ↔ ((n : ℕ) → 1 ≤ n → Applies n tables call → ⊥)
+  unfolding check
+  done-exactly = rw (answer-is-check tables call) (
+    (λ e n l h. true≢false (sym h ∙ none-applies 0 (checks tables call) e (n - 1))),
+    (λ f. all-pass 1 (checks tables call) (λ i. fails i (f (suc i) (omega arith)))),
+  )
+
+  -- and answered with n exactly if check n applies and no earlier one does.
+  pub number-exactly : (n : ℕ) → 1 ≤ n
+      → (step tables call .answer .number ≡ n) ↔ (Applies n tables call × ((k : ℕ) → 1 ≤ k → k < n → Applies k tables call → ⊥))
+  unfolding check
+  number-exactly n l = rw (answer-is-check tables call) (
+    (λ e.
+        let first = applied-first 0 (checks tables call) (n - 1) (e ∙ omega arith) in
+        (first .0, λ k l u h. true≢false (sym h ∙ first .1 (k - 1) (omega arith)))),
+    (λ q. first-applies 1 (checks tables call) (n - 1) (q .0) (λ i u. fails i (q .1 (suc i) (omega arith) (omega arith))) ∙ omega arith),
+  )

@@ -1,0 +1,77 @@
+-- The sentences of 01's checks, as statements: what each check of a call is proved to be, in both directions.
+use Prim.Native.Nat.{ℕ, _-_, _≤_, _<_, max}
+use mathlib.Core.Path.{_≡_}
+use mathlib.Core.Logic.{_≢_, _⊎_, _↔_}
+use mathlib.Core.Bool.{true, false}
+use mathlib.Core.Option.{some}
+use mathlib.Core.List.{List}
+use lib.ListN.{length, getD}
+use Rattle.svsc.specs.Messages.{Message, sentByPeers, typeOf, decode}
+use Rattle.allowance.specs.Bucket.{levelNow}
+use Rattle.rules.specs.Sizes.{connectionCount, connectionsSize, leasesSize, allowancesSize, timeLimit, randomBytes, leastBuffer}
+use Rattle.rules.specs.Tables.{Tables, closed, state, inSession, bucketOf, clock}
+use Rattle.rules.specs.Calls.{Call, opening, message, closing, timeOf, connectionOf, callerOf}
+use Rattle.rules.specs.Charges.{cost}
+use Rattle.rules.specs.Checks.{permits, checks}
+
+-- check n applies to the call, n from 1 to 9
+abbrev pub Applies : ℕ → Tables → Call → Type 0
+Applies n tables call = getD (checks tables call) (n - 1) false ≡ true
+
+pub record RightSizes (tables : Tables) : Type 0 where
+  pub connections : length (tables .connections) ≡ connectionsSize
+  pub leases : length (tables .leases) ≡ leasesSize
+  pub allowances : length (tables .allowances) ≡ allowancesSize
+
+-- 4: "open on a connection not closed; message or close on a closed one"
+abbrev pub InWrongState : List ℕ → Call → Type 0
+InWrongState cs (opening now c reply) = state cs c ≢ closed
+InWrongState cs (message now c m random reply relay) = state cs c ≡ closed
+InWrongState cs (closing now c relay) = state cs c ≡ closed
+
+-- 5: "message: draw not 80 bytes, reply tray under 64, relay tray under the larger of 64 and the message length; open: reply tray under 64;
+-- close: relay tray under 64"
+abbrev pub OfWrongLengths : Call → Type 0
+OfWrongLengths (opening now c reply) = length reply < leastBuffer
+OfWrongLengths (message now c m random reply relay) =
+    ((length random ≢ randomBytes) ⊎ (length reply < leastBuffer)) ⊎ (length relay < max leastBuffer (length m))
+OfWrongLengths (closing now c relay) = length relay < leastBuffer
+
+-- 6: "not a message that peers send, per the table above": there is a message of these bytes, and its type is one of 1, 2, 4, 6, 9, 11, 13
+-- (svsc, law `peers-send`)
+abbrev pub SentByPeer : List ℕ → Type 0
+SentByPeer m = (getD sentByPeers (typeOf m) false ≡ true) × ((x : Message) × (decode m ≡ some x))
+
+abbrev pub NotSentByPeer : Call → Type 0
+NotSentByPeer (opening now c reply) = ⊥
+NotSentByPeer (message now c m random reply relay) = SentByPeer m → ⊥
+NotSentByPeer (closing now c relay) = ⊥
+
+-- 7: "not permitted in this state" (law `permitted-types`)
+abbrev pub NotPermittedHere : List ℕ → Call → Type 0
+NotPermittedHere cs (opening now c reply) = ⊥
+NotPermittedHere cs (message now c m random reply relay) = permits (state cs c) (typeOf m) ≡ false
+NotPermittedHere cs (closing now c relay) = ⊥
+
+-- 8: "type 9 or 11 without a session"
+abbrev pub WithoutSession : List ℕ → Call → Type 0
+WithoutSession cs (opening now c reply) = ⊥
+WithoutSession cs (message now c m random reply relay) =
+    ((typeOf m ≡ 9) ⊎ (typeOf m ≡ 11)) × ((d : ℕ) → inSession cs c d ≡ true → ⊥)
+WithoutSession cs (closing now c relay) = ⊥
+
+-- each check of a call applies exactly if its sentence holds
+pub record EachExactly (tables : Tables) (call : Call) : Type 0 where
+  -- "a table isn't 4,096, 5,120 or 144 bytes"
+  pub one : Applies 1 tables call ↔ (RightSizes tables → ⊥)
+  -- "the reading is 2^40 or more, or .. below the latest"
+  pub two : Applies 2 tables call ↔ ((timeLimit ≤ timeOf call) ⊎ (timeOf call < clock (tables .allowances)))
+  -- "connection number 64 or more"
+  pub three : Applies 3 tables call ↔ (connectionCount ≤ connectionOf call)
+  pub four : Applies 4 tables call ↔ InWrongState (tables .connections) call
+  pub five : Applies 5 tables call ↔ OfWrongLengths call
+  pub six : Applies 6 tables call ↔ NotSentByPeer call
+  pub seven : Applies 7 tables call ↔ NotPermittedHere (tables .connections) call
+  pub eight : Applies 8 tables call ↔ WithoutSession (tables .connections) call
+  -- "the charge exceeds the partner's level"
+  pub nine : Applies 9 tables call ↔ (levelNow (bucketOf (tables .allowances) (callerOf call)) (timeOf call) < cost call)
