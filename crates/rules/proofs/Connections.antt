@@ -1,12 +1,12 @@
 -- Connection records: what each writing leaves in its own record and in the others, and what two joined records hold. Assumes nothing.
-use Prim.Native.Nat.{ℕ, _+_, _≤_, _<_}
+use Prim.Native.Nat.{ℕ, zero, suc, _+_, _≤_, _<_}
 use mathlib.Core.Path.{_≡_, refl, sym, ap, _∙_}
 use mathlib.Core.Logic.{_≢_}
-use mathlib.Core.Bool.{true, not, _&&_}
+use mathlib.Core.Bool.{true, false, not, _&&_}
 use mathlib.Core.List.{List, [], _∷_, _++_}
 use native.Mathlib.Omega.{arith}
 use lib.Dec.{eqb, leb, lit≤}
-use lib.ListN.{length, replicate, length-append}
+use lib.ListN.{length, replicate, length-append, getD-replicate}
 use lib.Seq.{take-at, drop-at, take-all, drop-drop}
 use borrow.Author.Tests.{le-leb, eq-eqb, ne-eqb, eqb-true, eqb-false, not-true}
 use Rattle.octets.specs.Octets.{if_then_else_, byteAt, part}
@@ -16,7 +16,8 @@ use Rattle.svsc.specs.Messages.{keyBytes}
 use Rattle.rules.specs.Sizes.{connectionCount, connectionBytes, connectionsSize, nobody}
 use Rattle.rules.specs.Tables.{partnerOf, connectionAt, peerAt, keysAt, keysBytes, opened, closed, awaiting, state, isOpen, peer, inSession, hasSession, sessionIdOf, peerIdOf, peerKeyOf, setState, setPeer, freshConnection}
 use Rattle.rules.specs.Sessions.{clear, await, join, leave, endSession}
-use Rattle.rules.specs.Laws.{connectionRecord, Cleared}
+use Rattle.rules.specs.Reading.{connectionRecord}
+use Rattle.rules.specs.Effects.{FreshBut, Cleared}
 use Rattle.rules.proofs.Records.{Kept, kept-trans, kept-put, length-part-most, part-part, byte-part, field-same, byte-same, byte-beside, byte-put, part-beside}
 
 -- ---- the fields of a record, from its bytes
@@ -88,20 +89,27 @@ module _ (cs : List ℕ) (c : ℕ) (size : length cs ≡ connectionsSize) (c< : 
   unfolding state
   state-set s h = rw (byte-put cs (connectionAt c) s (omega arith), le-leb s opened h)
 
--- a new connection waits for the version answer
-pub await-awaits : (cs : List ℕ) (c : ℕ) → length cs ≡ connectionsSize → c < connectionCount → state (await cs c) c ≡ awaiting
-unfolding await clear
-await-awaits cs c size c< =
-    state-set (clear cs c) c (length-put cs (connectionAt c) freshConnection ∙ size) c< awaiting (lit≤ tt)
+-- the bytes of a fresh record, one by one, and of a record that is fresh but for its state
+fresh-byte : (i : ℕ) → i < connectionBytes → byteAt freshConnection i ≡ (if eqb i 0 then 0 else if eqb i 1 then 255 else 0)
+fresh-byte zero l = refl
+fresh-byte (suc zero) l = refl
+fresh-byte (suc (suc i)) l =
+    rw (ne-eqb (suc (suc i)) 0 (λ e. omega arith), ne-eqb (suc (suc i)) 1 (λ e. omega arith)) (getD-replicate 62 i 0 0 (omega arith))
 
-pub await-clears : (cs : List ℕ) (c : ℕ) → length cs ≡ connectionsSize → c < connectionCount → Cleared (await cs c) c
+pub fresh-record : (cs : List ℕ) (c : ℕ) → connectionRecord cs c ≡ freshConnection → FreshBut 0 cs c
+fresh-record cs c e i l =
+    sym (byte-part cs (connectionAt c) connectionBytes i l) ∙ ap (λ (r : List ℕ). byteAt r i) e ∙ fresh-byte i l
+
+pub await-fresh : (cs : List ℕ) (c : ℕ) → length cs ≡ connectionsSize → c < connectionCount → FreshBut 1 (await cs c) c
 unfolding await
-await-clears cs c size c< =
-    let fresh = clear-clears cs c size c< in
-    record {
-      peer-none = byte-beside (clear cs c) (connectionAt c) (awaiting ∷ []) (peerAt c) (λ l. omega arith) ∙ fresh .peer-none;
-      keys-zero = part-beside (clear cs c) (connectionAt c) (awaiting ∷ []) (keysAt c) keysBytes (λ l. omega arith) ∙ fresh .keys-zero;
-    }
+await-fresh cs c size c< zero l =
+    let z : connectionAt c + 0 ≡ connectionAt c = omega arith in
+    rw z (byte-put (clear cs c) (connectionAt c) awaiting (unfold clear in omega (arith, length-put cs (connectionAt c) freshConnection)))
+await-fresh cs c size c< (suc i) l =
+    let n : eqb (suc i) 0 ≡ false = ne-eqb (suc i) 0 (λ e. omega arith) in
+    byte-beside (clear cs c) (connectionAt c) (awaiting ∷ []) (connectionAt c + suc i) (λ u. omega arith)
+    ∙ fresh-record (clear cs c) c (cleared-record cs c size c<) (suc i) l
+    ∙ rw n
 
 pub length-join : (cs : List ℕ) (c other : ℕ) (keys : List ℕ) → length (join cs c other keys) ≡ length cs
 unfolding join

@@ -16,7 +16,7 @@ use Rattle.rules.specs.Searches.{firstFrom, firstRow, endRow, firstOwn}
 use Rattle.rules.specs.Tables.{partnerOf, ownerOf, isOpen, hasSession, live, liveWithId, holder, cookieOf, holderCounts}
 use Rattle.rules.specs.Leases.{LeaseDecision, holdsLease, noSpareRow, cookieInUse, noFreeId, granted, holdsRow, spareRow, cookieTaken, randomCookie, candidate, idTaken, firstFree, decideLease, rowToExtend}
 use Rattle.rules.specs.Sessions.{refusedWith, establishedWith, rowOfId, decideEstablish}
-use Rattle.rules.specs.Laws.{isGranted}
+use Rattle.rules.specs.Effects.{isGranted}
 use Rattle.rules.proofs.Searches.{first-low, first-passes, first-found, first-none}
 
 -- Past a test that would give another answer.
@@ -53,6 +53,9 @@ own-passes p f h = first-passes f (firstRow p) rowsPerPartner h
 
 pub record Granted (ls : List ℕ) (now c : ℕ) (random : List ℕ) (row id : ℕ) (cookie : List ℕ) : Type 0 where
   pub own : Own (partnerOf c) row
+  pub row-is : row ≡ spareRow ls now (partnerOf c)
+  pub id-is : id ≡ candidate random (firstFree ls now random)
+  pub found : firstFree ls now random < candidateCount
   pub spare : live ls now row ≡ false
   pub id-free : idTaken ls now id ≡ false
   pub id-small : id < idLimit
@@ -92,6 +95,9 @@ module _ (ls : List ℕ) (now c : ℕ) (random : List ℕ) where
       let found = found-spare (not-false _ (b .0)) in
       record {
         own = rw (← row-is) (found .0);
+        row-is = sym row-is;
+        id-is = sym id-is;
+        found = ltb-true (firstFree ls now random) candidateCount (not-false _ (f .0));
         spare = rw (← row-is) (found .1);
         id-free = rw (← id-is) (found-id (not-false _ (f .0)));
         id-small = rw (← id-is) (candidate-small (firstFree ls now random));

@@ -8,7 +8,7 @@ use Rattle.octets.specs.Octets.{numberFrom, number, part, numberAt, bigEndian}
 use Rattle.rules.specs.Sizes.{partners, connectionCount, rowCount}
 use Rattle.rules.specs.Tables.{allowanceAt, records, freshConnection, freshLease, bucketBytes, fresh}
 use Rattle.rules.proofs.Allowances.{part-records}
-use Rattle.rules.specs.Laws.{connectionRecord, leaseRecord}
+use Rattle.rules.specs.Reading.{connectionRecord, leaseRecord}
 
 -- each of several equal records, with nothing behind them
 whole-record : (r : List ℕ) (count k : ℕ) → k < count → part (records count r) (length r * k) (length r) ≡ part r 0 (length r)

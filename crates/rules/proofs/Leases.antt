@@ -6,7 +6,7 @@ use mathlib.Core.Bool.{Bool, true, false, not, _&&_, false≢true}
 use mathlib.Core.List.{List}
 use native.Mathlib.Omega.{arith}
 use lib.Dec.{eqb, ltb}
-use borrow.Author.Tests.{eq-eqb, ne-eqb, eqb-true, lt-ltb, le-ltb, ltb-true, not-true}
+use borrow.Author.Tests.{eq-eqb, ne-eqb, eqb-true, lt-ltb, le-ltb, ltb-true, not-true, not-false}
 use Rattle.octets.specs.Octets.{if_then_else_, same}
 use Rattle.octets.proofs.Tests.{both-left, both-right}
 use Rattle.octets.proofs.Equality.{same-eq, same-refl}
@@ -15,9 +15,9 @@ use Rattle.rules.specs.Searches.{firstFrom, firstRow, endRow, firstOwn, 
 use Rattle.rules.specs.Tables.{partnerOf, ownerOf, hasSession, live, liveWithId, idOf, holder, cookieOf}
 use Rattle.rules.specs.Leases.{LeaseDecision, holdsLease, noSpareRow, cookieInUse, noFreeId, granted, holdsRow, spareRow, cookieTaken, randomCookie, candidate, idTaken, firstFree, decideLease, rowToExtend}
 use Rattle.rules.specs.Sessions.{refusedWith, rowOfId, decideEstablish}
-use Rattle.rules.specs.Laws.{LeaseConditions, isGranted, Extendable, Statuses}
-use Rattle.rules.proofs.Searches.{first-passes, none-passes, all-fail, first-found}
-use Rattle.rules.proofs.Decisions.{own-row, own-found, own-none, own-passes}
+use Rattle.rules.specs.Effects.{LeaseConditions, isGranted, FirstFree, LowestOwn, Extendable, Statuses}
+use Rattle.rules.proofs.Searches.{first-passes, first-below, none-passes, all-fail, first-found}
+use Rattle.rules.proofs.Decisions.{is-granted, own-row, own-found, own-none, own-passes}
 
 -- ---- tests, and what they say
 
@@ -86,7 +86,7 @@ module _ (ls : List ℕ) (now c : ℕ) (random : List ℕ) where
 
   -- each test is its condition
   conditions : Asked → LeaseConditions ls now c random
-  unfolding holdsRow spareRow cookieTaken firstFree idTaken liveWithId
+  unfolding holdsRow spareRow cookieTaken firstFree idTaken liveWithId candidate
   conditions t =
       let spare-test : ℕ → Bool = λ r. not (live ls now r) in
       let spare< = ltb-true (firstOwn p spare-test) (endRow p) (t .a-spare) in
@@ -112,7 +112,7 @@ module _ (ls : List ℕ) (now c : ℕ) (random : List ℕ) where
       }
 
   asked : LeaseConditions ls now c random → Asked
-  unfolding holdsRow spareRow cookieTaken firstFree idTaken liveWithId
+  unfolding holdsRow spareRow cookieTaken firstFree idTaken liveWithId candidate
   asked q = record {
     no-row = live-none ls now p (λ r. eqb (holder ls r) c) (λ r o l. ne-eqb (holder ls r) c (q .holds-none r o l));
     a-spare = own-found p (λ r. not (live ls now r)) (q .spare .0) (q .spare .1) (rw (q .spare .2));
@@ -134,10 +134,38 @@ module _ (ls : List ℕ) (now c : ℕ) (random : List ℕ) where
     (λ q. let t = asked q in rw (t .no-row, t .a-spare, t .no-cookie, t .a-free)),
   )
 
+  -- What is granted: the first free candidate, in the lowest row that isn't live.
+  pub first-free : (row id : ℕ) (cookie : List ℕ) → decideLease ls now c random ≡ granted row id cookie
+      → FirstFree ls now c random row id cookie
+  unfolding spareRow firstFree idTaken liveWithId candidate
+  first-free row id cookie e =
+      let g = is-granted ls now c random row id cookie e in
+      let spare-test : ℕ → Bool = λ r. not (live ls now r) in
+      let free-test : ℕ → Bool = λ k. not (idTaken ls now (candidate random k)) in
+      let k = firstFrom free-test 0 candidateCount in
+      record {
+        own = g .own .owner;
+        spare = g .spare;
+        lower-live = λ r o l.
+            not-false _ (first-below spare-test (firstRow p) rowsPerPartner r (omega arith) (rw (g .row-is) at l));
+        place = k;
+        in-fourteen = g .found;
+        id-is = g .id-is;
+        free = λ r r< l h.
+            false≢true
+            (sym (none-passes (liveWithId ls now id) 0 rowCount (g .id-free) r (omega arith) r<)
+            ∙ rw l (eq-eqb (idOf ls r) id h));
+        earlier-taken = λ j l f.
+            false≢true
+            (sym (all-fail (liveWithId ls now (candidate random j)) 0 rowCount (λ r a b. no-id ls now (candidate random j) r (f r b)))
+            ∙ not-false _ (first-below free-test 0 candidateCount j (omega arith) l));
+        cookie-is = g .cookie-is;
+      }
+
 -- ---- Extension
 
 module _ (ls : List ℕ) (now c : ℕ) (cookie : List ℕ) where
-  abbrev extends : ℕ → Bool
+  abbrev pub extends : ℕ → Bool
   extends r = live ls now r && eqb (holder ls r) c && same (cookieOf ls r) cookie
 
   pub extension-exactly : (ltb (rowToExtend ls now c cookie) (endRow (partnerOf c)) ≡ true) ↔ Extendable ls now c cookie
@@ -156,6 +184,23 @@ module _ (ls : List ℕ) (now c : ℕ) (cookie : List ℕ) where
         )),
     (λ q. own-found (partnerOf c) extends (q .0) (q .1) (rw (q .2, eq-eqb (holder ls (q .0)) c (q .3), q .4) (same-refl cookie))),
   )
+
+-- ---- the lowest such row
+
+lowest-own : (p : ℕ) (f : ℕ → Bool) → LowestOwn p f (firstOwn p f)
+lowest-own p f = record {
+  passes = λ l. (own-row p f l .owner, own-passes p f l);
+  lower-fail = λ k o l. first-below f (firstRow p) rowsPerPartner k (omega arith) l;
+}
+
+pub row-to-extend-lowest : (ls : List ℕ) (now c : ℕ) (cookie : List ℕ)
+    → LowestOwn (partnerOf c) (extends ls now c cookie) (rowToExtend ls now c cookie)
+unfolding rowToExtend
+row-to-extend-lowest ls now c cookie = lowest-own (partnerOf c) (extends ls now c cookie)
+
+pub row-of-id-lowest : (ls : List ℕ) (now p id : ℕ) → LowestOwn p (λ r. live ls now r && eqb (idOf ls r) id) (rowOfId ls now p id)
+unfolding rowOfId liveWithId
+row-of-id-lowest ls now p id = lowest-own p (liveWithId ls now id)
 
 -- ---- Establish: the statuses, in their order
 

@@ -7,6 +7,7 @@ pub mod Allowances
 pub mod Fresh
 pub mod Connections
 pub mod Rows
+pub mod Changes
 pub mod Messages
 pub mod Checks
 pub mod Charges
@@ -28,3 +29,4 @@ pub mod Keys
 pub mod Refusals
 pub mod Laws
 pub mod MessageLaws
+pub mod CallLaws

@@ -18,7 +18,9 @@ use Rattle.rules.specs.Sizes.{rowCount, rowsPerPartner, leaseBytes, leas
 use Rattle.rules.specs.Searches.{firstRow}
 use Rattle.rules.specs.Tables.{partnerOf, leaseAt, idAt, holderAt, cookieAt, expiry, idOf, holder, cookieOf, live, liveWithId, setExpiry, setId, setHolder, setCookie, records, freshLease, fresh}
 use Rattle.rules.specs.Leases.{idTaken, grant, releaseFrom, release}
-use Rattle.rules.specs.Laws.{leaseRecord, LeaseRow, DistinctIds}
+use Rattle.rules.specs.Reading.{leaseRecord}
+use Rattle.rules.specs.Effects.{LeaseRow}
+use Rattle.rules.specs.Laws.{DistinctIds}
 use Rattle.rules.proofs.Searches.{none-passes}
 use Rattle.rules.proofs.Records.{Kept, kept-same, kept-trans, kept-put, field-same, byte-same, number-beside, byte-beside, byte-put}
 use Rattle.rules.proofs.Allowances.{part-records}
@@ -49,7 +51,7 @@ kept-grant ls r until id cookie c mine h =
     (kept-cookie (setHolder (setId (setExpiry ls r until) r id) r c) r mine cookie h)))
 
 -- the rows of one partner, one by one
-by-holder : (P : List ℕ → Type 0) (ls : List ℕ) (c r v : ℕ) → P (setHolder ls r v) → P ls
+pub by-holder : (P : List ℕ → Type 0) (ls : List ℕ) (c r v : ℕ) → P (setHolder ls r v) → P ls
     → P (if eqb (holder ls r) c then setHolder ls r v else ls)
 by-holder P ls c r v f g = go (eqb (holder ls r) c)
   where
@@ -133,38 +135,6 @@ module _ (ls : List ℕ) (r until id : ℕ) (cookie : List ℕ) (c : ℕ) (size 
         byte-beside with-holder (cookieAt r) cookie (holderAt r) (λ l. absurd (omega arith))
         ∙ byte-put with-id (holderAt r) c (omega (arith, size-id));
   }
-
--- after a close none of the rows names the connection
-length-released : (ls : List ℕ) (c r : ℕ) → length (if eqb (holder ls r) c then setHolder ls r nobody else ls) ≡ length ls
-length-released ls c r = by-holder (λ l. length l ≡ length ls) ls c r nobody (length-put ls (holderAt r) (nobody ∷ [])) refl
-
-released : (ls : List ℕ) (c r : ℕ) → c ≢ nobody → length ls ≡ leasesSize → r < rowCount
-    → holder (if eqb (holder ls r) c then setHolder ls r nobody else ls) r ≢ c
-released ls c r n size r< = go (eqb (holder ls r) c) refl
-  where
-    go : (x : Bool) → eqb (holder ls r) c ≡ x → holder (if x then setHolder ls r nobody else ls) r ≢ c
-    go true e h = n (sym h ∙ byte-put ls (holderAt r) nobody (omega arith))
-    go false e h = eqb-false (holder ls r) c e h
-
-pub none-named : (n : ℕ) (ls : List ℕ) (c r : ℕ) → c ≢ nobody → length ls ≡ leasesSize → r + n ≤ rowCount
-    → (k : ℕ) → r ≤ k → k < r + n → holder (releaseFrom ls c r n) k ≢ c
-unfolding releaseFrom
-none-named zero ls c r d size top k l u = absurd (omega arith)
-none-named (suc n) ls c r d size top k l u = go (ℕ-discrete k r)
-    (none-named n _ c (suc r) d (length-released ls c r ∙ size) (omega arith) k)
-  where
-    first : List ℕ
-    first = if eqb (holder ls r) c then setHolder ls r nobody else ls
-
-    stays : holder (releaseFrom first c (suc r) n) r ≡ holder first r
-    stays =
-        byte-same leaseBytes r first (releaseFrom first c (suc r) n)
-        (kept-release {Other = λ k. k ≡ r} n first c (suc r) (λ k l u e. omega arith) .at r refl) 12 (lit≤ tt)
-
-    go : Dec (k ≡ r) → (suc r ≤ k → k < suc r + n → holder (releaseFrom first c (suc r) n) k ≢ c)
-        → holder (releaseFrom first c (suc r) n) k ≢ c
-    go (yes e) ih = rw e (λ h. released ls c r d size (omega arith) (sym stays ∙ h))
-    go (no e) ih = ih (omega arith) (omega arith)
 
 -- ---- live ids are distinct
 

@@ -43,6 +43,17 @@ first-passes f i (suc n) l = rw (first-turn f i n) (go (f i) refl (rw (first-tur
     go true e l ih = e
     go false e l ih = ih (omega arith)
 
+-- Each before it fails.
+pub first-below : (f : ℕ → Bool) (i n k : ℕ) → i ≤ k → k < firstFrom f i n → f k ≡ false
+first-below f i zero k l u = absurd (unfold firstFrom in omega arith)
+first-below f i (suc n) k l u = go (f i) refl (rw (first-turn f i n) at u) (ℕ-discrete k i) (first-below f (suc i) n k)
+  where
+    go : (x : Bool) → f i ≡ x → k < (if x then i else firstFrom f (suc i) n) → Dec (k ≡ i)
+        → (suc i ≤ k → k < firstFrom f (suc i) n → f k ≡ false) → f k ≡ false
+    go true e u d ih = absurd (omega arith)
+    go false e u (yes s) ih = rw s e
+    go false e u (no s) ih = ih (omega arith) u
+
 -- Where none passes, each fails.
 pub none-passes : (f : ℕ → Bool) (i n : ℕ) → anyFrom f i n ≡ false → (k : ℕ) → i ≤ k → k < i + n → f k ≡ false
 none-passes f i zero h k l u = absurd (omega arith)

@@ -14,10 +14,13 @@ use Rattle.rules.specs.Sizes.{connectionCount, connectionsSize, randomBy
 use Rattle.rules.specs.Searches.{endRow}
 use Rattle.rules.specs.Tables.{Tables, partnerOf, opened, isOpen, inSession, hasSession}
 use Rattle.rules.specs.Leases.{LeaseDecision, holdsLease, noSpareRow, cookieInUse, noFreeId, granted, decideLease, rowToExtend, release}
-use Rattle.rules.specs.Sessions.{EstablishDecision, refusedWith, establishedWith, decideEstablish, randomSessionId, callersPeerId, callersKey, holdersPeerId, holdersKey, establish, endSession, clear}
+use Rattle.rules.specs.Sessions.{EstablishDecision, refusedWith, establishedWith, decideEstablish, randomSessionId, callersPeerId, callersKey, holdersPeerId, holdersKey, join, establish, endSession, clear}
 use Rattle.rules.specs.Plans.{Plan, planOpen, planVersionAnswer, planLease, planExtension, planEstablish, planEnd, planData, planClose}
-use Rattle.rules.specs.Laws.{connectionRecord, Cleared}
-use Rattle.rules.proofs.Connections.{Paired, in-session, Joined, joined-first, joined-second, joined-others, all-keys, ThreeKeys, three-keys, peer-same, keys-same, kept-clear, end-clears-second}
+use Rattle.rules.specs.Reading.{connectionRecord}
+use Rattle.rules.specs.Bytes.{ChangedOnly}
+use Rattle.rules.specs.Effects.{InSessionBytes, Cleared}
+use Rattle.rules.proofs.Connections.{Paired, in-session, Joined, joined-first, joined-second, all-keys, ThreeKeys, three-keys, peer-same, keys-same, kept-clear, end-clears-second}
+use Rattle.rules.proofs.Changes.{changed-both, changed-join}
 use Rattle.rules.proofs.Decisions.{Holding, is-established}
 use Rattle.rules.proofs.Plans.{Each, by-test}
 
@@ -67,11 +70,12 @@ module _
         (key 0 (lit≤ tt)) (key 48 (lit≤ tt)) (key 64 (lit≤ tt))
         (establish cs c h random) h (holder-joined .keys-are)
 
-    pub establish-others : (d : ℕ) → d ≢ c → d ≢ h → connectionRecord (establish cs c h random) d ≡ connectionRecord cs d
+    pub changed-establish : ChangedOnly (λ i. InSessionBytes c i ⊎ InSessionBytes h i) cs (establish cs c h random)
     unfolding establish
-    establish-others d n m =
-        joined-others {Other = λ d. (d ≢ c) × (d ≢ h)} cs c h h c CallersKeys HoldersKeys (λ o. o .0 refl) (λ o. o .1 refl)
-        (omega (arith, callers-length)) (omega (arith, holders-length)) .at d (n, m)
+    changed-establish =
+        changed-both
+        (changed-join cs c h CallersKeys (omega (arith, callers-length)))
+        (changed-join (join cs c h CallersKeys) h c HoldersKeys (omega (arith, holders-length)))
 
     pub establish-pairs : isOpen cs c ≡ true → inSession (establish cs c h random) c h ≡ true
     establish-pairs o =

@@ -14,4 +14,5 @@ pub mod Demand3
 pub mod Bytes
 pub mod Reading
 pub mod Refusals
+pub mod Effects
 pub mod Laws

@@ -1,0 +1,112 @@
+-- What an open and a close do where they are answered with 0: the whole answer, both buffers, and every byte of the tables. Assumes nothing.
+use Prim.Native.Nat.{ℕ, _+_, _≤_}
+use mathlib.Core.Path.{_≡_, refl, _∙_}
+use mathlib.Core.Logic.{inl, inr, ⊎-elim}
+use mathlib.Core.Bool.{true, false}
+use mathlib.Core.List.{List, [], _∷_}
+use native.Mathlib.Omega.{arith}
+use lib.ListN.{length}
+use Rattle.octets.specs.Octets.{if_then_else_, put}
+use Rattle.octets.proofs.Tests.{by-test as either-way}
+use Rattle.svsc.specs.Messages.{ProtocolVersion, digits, encode}
+use Rattle.rules.specs.Sizes.{rowsPerPartner, connectionsSize}
+use Rattle.rules.specs.Searches.{firstRow}
+use Rattle.rules.specs.Tables.{Tables, partnerOf, peer, inSession, hasSession}
+use Rattle.rules.specs.Leases.{release}
+use Rattle.rules.specs.Sessions.{endSession}
+use Rattle.rules.specs.Calls.{Call, opening, closing, Outcome}
+use Rattle.rules.specs.Plans.{Plan, doNothing, planOpen, planEnd, planClose, plan}
+use Rattle.rules.specs.Step.{step, done}
+use Rattle.rules.specs.Effects.{InConnection, InSessionBytes, Opened, Closed, ClosedInSession, ClosedAlone}
+use Rattle.rules.specs.Laws.{Accepted}
+use Rattle.rules.proofs.Checks.{Passed, passed}
+use Rattle.rules.proofs.Answers.{is-done, done-passed}
+use Rattle.rules.proofs.Plans.{by-test}
+use Rattle.rules.proofs.Same.{same-trans}
+use Rattle.rules.proofs.Connections.{cleared-record, fresh-record, await-fresh, paired, session-with, length-end}
+use Rattle.rules.proofs.Changes.{changed-more, changed-clear, changed-await, changed-end, release-only, given-back}
+use Rattle.rules.proofs.Sessions.{close-clears-other}
+use Rattle.rules.proofs.MessageLaws.{replied}
+
+-- ---- open
+
+-- The connection awaits the version answer, and is told "SVSC 001.000".
+pub opened-fresh : (tables : Tables) (now c : ℕ) (reply : List ℕ) → Accepted tables (opening now c reply)
+    → Opened tables (opening now c reply) c (step tables (opening now c reply))
+    (0 ∷ 83 ∷ 86 ∷ 83 ∷ 67 ∷ 32 ∷ 48 ∷ 48 ∷ 49 ∷ 46 ∷ 48 ∷ 48 ∷ 48 ∷ [])
+unfolding done plan planOpen encode digits
+opened-fresh tables now c reply e =
+    let fits = passed tables (opening now c reply) (done-passed tables (opening now c reply) e) in
+    rw (is-done tables (opening now c reply) e)
+    (record {
+      sent = replied tables (opening now c reply) _ _ _;
+      own = await-fresh (tables .connections) c (fits .connections) (fits .known);
+      others = changed-await (tables .connections) c;
+      leases = refl;
+    })
+
+-- ---- close
+
+module _ (tables : Tables) (now c : ℕ) (relay : List ℕ) (e : Accepted tables (closing now c relay)) where
+  open Tables tables using (connections as cs, leases as ls)
+
+  abbrev call : Call
+  call = closing now c relay
+
+  abbrev o : Outcome
+  o = step tables call
+
+  fit : Passed tables call
+  fit = passed tables call (done-passed tables call e)
+
+  -- the records once a session, if there is one, has ended
+  abbrev ended : List ℕ
+  ended = (if hasSession cs c then planEnd tables c else doNothing tables) .connections
+
+  ended-long : length ended ≡ connectionsSize
+  unfolding planEnd
+  ended-long =
+      by-test (λ (x : Plan). length (x .connections) ≡ connectionsSize) (hasSession cs c)
+      (λ h. length-end cs c (peer cs c) ∙ fit .connections)
+      (λ h. fit .connections)
+
+  -- Its record is fresh, and of the lease table only the holders that named it change.
+  pub closed-fresh : Closed tables c o
+  unfolding done plan planClose planEnd release
+  closed-fresh =
+      rw (is-done tables call e)
+      (record {
+        own = fresh-record _ c (cleared-record ended c ended-long (fit .known));
+        given-back = λ r mine named.
+            given-back c rowsPerPartner ls (firstRow (partnerOf c)) (fit .leases) (omega (arith, fit .of-partner)) r (omega arith) (omega arith) named;
+        other-rows =
+            changed-more (λ i q. (q .0, omega (arith, q .1, q .2), q .3, q .4)) (release-only c rowsPerPartner ls (firstRow (partnerOf c)));
+      })
+
+  -- With a session, the other side ends and is told.
+  pub closed-in-session : (d : ℕ) → inSession cs c d ≡ true → ClosedInSession tables call c d o (10 ∷ [])
+  unfolding done put plan planClose planEnd encode
+  closed-in-session d s =
+      let two = paired cs c d s in
+      rw (is-done tables call e, session-with cs c d s, two .names-first)
+      (record {
+        sent = record { answer = refl; reply = refl; relay = refl };
+        other = close-clears-other cs c d (fit .connections) (fit .known) two;
+        others =
+            same-trans
+            (changed-more (λ i q. ⊎-elim (λ a. inl (whole i a)) (λ b. inr b) q) (changed-end cs c d))
+            (changed-more (λ i q. inl q) (changed-clear (endSession cs c d) c));
+      })
+    where
+      whole : (i : ℕ) → InSessionBytes c i → InConnection c i
+      whole i = ⊎-elim (λ a. (omega (arith, a .0), omega (arith, a .1))) (λ b. (omega (arith, b .0), omega (arith, b .1)))
+
+  -- Without one nothing is sent, and no other record changes.
+  pub closed-alone : ((d : ℕ) → inSession cs c d ≡ true → ⊥) → ClosedAlone tables call c o
+  unfolding done put plan planClose hasSession
+  closed-alone n =
+      rw (is-done tables call e, alone)
+      (record { sent = record { answer = refl; reply = refl; relay = refl }; others = changed-clear cs c })
+    where
+      alone : inSession cs c (peer cs c) ≡ false
+      alone = ⊎-elim (λ s. absurd (n (peer cs c) s)) (λ s. s) (either-way (inSession cs c (peer cs c)))

@@ -1,0 +1,220 @@
+-- What 01, "Effects", says of each call that is done, as statements: what is sent to whom, and what stands in the tables afterwards, byte by
+-- byte. 01's numbers stand here as numbers.
+use Prim.Native.Nat.{ℕ, _+_, _*_, _%_, _≤_, _<_}
+use mathlib.Core.Path.{_≡_}
+use mathlib.Core.Logic.{_≢_, _⊎_}
+use mathlib.Core.Bool.{Bool, true, false}
+use mathlib.Core.List.{List}
+use lib.Dec.{eqb}
+use lib.ListN.{length, replicate}
+use Rattle.octets.specs.Octets.{if_then_else_, byteAt, part, numberAt, put}
+use Rattle.svsc.specs.Messages.{Established, EstablishNotification, encode}
+use Rattle.rules.specs.Sizes.{rowCount, connectionBytes, leaseBytes}
+use Rattle.rules.specs.Searches.{endRow}
+use Rattle.rules.specs.Tables.{Tables, partnerOf, ownerOf, connectionAt, holderAt, leaseAt, peer, inSession, hasSession, holderCounts, sessionIdOf, peerIdOf, peerKeyOf, live, expiry, idOf, holder, cookieOf}
+use Rattle.rules.specs.Leases.{LeaseDecision, holdsLease, noSpareRow, cookieInUse, noFreeId, granted}
+use Rattle.rules.specs.Sessions.{EstablishDecision, refusedWith, establishedWith}
+use Rattle.rules.specs.Calls.{Call, replyBuffer, relayBuffer, Outcome}
+use Rattle.rules.specs.Bytes.{ChangedOnly, InField}
+
+-- ---- what is sent: the whole answer, and both buffers
+
+-- bytes for the caller, and nothing for another connection
+pub record RepliedOnly (call : Call) (o : Outcome) (bytes : List ℕ) : Type 0 where
+  pub answer : o .answer
+      ≡ record { number = 0; replyLength = length bytes; relayLength = 0; destination = 255; disconnect = false }
+  pub reply : o .reply ≡ put (replyBuffer call) 0 bytes
+  pub relay : o .relay ≡ relayBuffer call
+
+-- bytes for connection d, and nothing for the caller
+pub record RelayedOnly (call : Call) (o : Outcome) (bytes : List ℕ) (d : ℕ) : Type 0 where
+  pub answer : o .answer ≡ record { number = 0; replyLength = 0; relayLength = length bytes; destination = d; disconnect = false }
+  pub reply : o .reply ≡ replyBuffer call
+  pub relay : o .relay ≡ put (relayBuffer call) 0 bytes
+
+-- nothing for anybody
+pub record SentNothing (call : Call) (o : Outcome) (disconnect : Bool) : Type 0 where
+  pub answer : o .answer ≡ record { number = 0; replyLength = 0; relayLength = 0; destination = 255; disconnect = disconnect }
+  pub reply : o .reply ≡ replyBuffer call
+  pub relay : o .relay ≡ relayBuffer call
+
+-- ---- connection records
+
+-- a place in connection c's record
+abbrev pub InConnection : ℕ → ℕ → Type 0
+InConnection c i = InField connectionBytes c 0 connectionBytes i
+
+-- "byte 1" and "16-63" of it: what a session stands in
+abbrev pub InSessionBytes : ℕ → ℕ → Type 0
+InSessionBytes c i = InField connectionBytes c 1 1 i ⊎ InField connectionBytes c 16 48 i
+
+-- "connections all zero but byte 1 = 255", and but for the state
+abbrev pub FreshBut : ℕ → List ℕ → ℕ → Type 0
+FreshBut s cs c =
+    (i : ℕ) → i < connectionBytes → byteAt cs (connectionAt c + i) ≡ (if eqb i 0 then s else if eqb i 1 then 255 else 0)
+
+-- "lose the session (byte 1 = 255, 16-63 zero)"
+pub record Cleared (cs : List ℕ) (c : ℕ) : Type 0 where
+  pub peer-none : byteAt cs (connectionAt c + 1) ≡ 255
+  pub keys-zero : part cs (connectionAt c + 16) 48 ≡ replicate 48 0
+
+-- An open: "the record becomes fresh but for state 1; reply is the version message"
+pub record Opened (tables : Tables) (call : Call) (c : ℕ) (o : Outcome) (version : List ℕ) : Type 0 where
+  pub sent : RepliedOnly call o version
+  pub own : FreshBut 1 (o .tables .connections) c
+  pub others : ChangedOnly (InConnection c) (tables .connections) (o .tables .connections)
+  pub leases : o .tables .leases ≡ tables .leases
+
+-- Type 1: "ok 1 gives state 2"
+pub record VersionTaken (tables : Tables) (call : Call) (c : ℕ) (o : Outcome) : Type 0 where
+  pub sent : SentNothing call o false
+  pub own : byteAt (o .tables .connections) (connectionAt c) ≡ 2
+  pub others : ChangedOnly (InField connectionBytes c 0 1) (tables .connections) (o .tables .connections)
+  pub leases : o .tables .leases ≡ tables .leases
+
+-- "ok 0 puts the record back to fresh and hangs up"
+pub record VersionRefused (tables : Tables) (call : Call) (c : ℕ) (o : Outcome) : Type 0 where
+  pub sent : SentNothing call o true
+  pub own : FreshBut 0 (o .tables .connections) c
+  pub others : ChangedOnly (InConnection c) (tables .connections) (o .tables .connections)
+  pub leases : o .tables .leases ≡ tables .leases
+
+-- ---- sessions
+
+-- Establish, status 0, of connection c with holder h, from the random bytes: "Each record gets the session-id, its own pair and the other's
+-- number; reply is type 7 with the caller's pair, relay is type 8 with the holder's pair, to the holder."
+pub record KeysToOwners (tables : Tables) (call : Call) (c h id : ℕ) (random : List ℕ) (o : Outcome) : Type 0 where
+  pub answer : o .answer ≡ record { number = 0; replyLength = 54; relayLength = 49; destination = h; disconnect = false }
+  pub reply : o .reply
+      ≡ put (replyBuffer call) 0 (encode (Established id (part random 0 16) (part random 16 16) (part random 32 16)))
+  pub relay : o .relay ≡ put (relayBuffer call) 0 (encode (EstablishNotification (part random 0 16) (part random 48 16) (part random 64 16)))
+  pub paired : inSession (o .tables .connections) c h ≡ true
+  pub caller-session : sessionIdOf (o .tables .connections) c ≡ part random 0 16
+  pub caller-id : peerIdOf (o .tables .connections) c ≡ part random 16 16
+  pub caller-key : peerKeyOf (o .tables .connections) c ≡ part random 32 16
+  pub holder-session : sessionIdOf (o .tables .connections) h ≡ part random 0 16
+  pub holder-id : peerIdOf (o .tables .connections) h ≡ part random 48 16
+  pub holder-key : peerKeyOf (o .tables .connections) h ≡ part random 64 16
+  pub others : ChangedOnly (λ i. InSessionBytes c i ⊎ InSessionBytes h i) (tables .connections) (o .tables .connections)
+  pub leases : o .tables .leases ≡ tables .leases
+
+-- Type 9: "both records lose the session (byte 1 = 255, 16-63 zero); relay is type 10 to the other"
+pub record SessionEnded (tables : Tables) (call : Call) (c d : ℕ) (o : Outcome) (told : List ℕ) : Type 0 where
+  pub paired : inSession (tables .connections) c d ≡ true
+  pub sent : RelayedOnly call o told d
+  pub own : Cleared (o .tables .connections) c
+  pub other : Cleared (o .tables .connections) d
+  pub others : ChangedOnly (λ i. InSessionBytes c i ⊎ InSessionBytes d i) (tables .connections) (o .tables .connections)
+  pub leases : o .tables .leases ≡ tables .leases
+
+-- Type 11: "relay is 12 and the same data, to the other"
+pub record DataRelayed (tables : Tables) (call : Call) (c d : ℕ) (o : Outcome) (bytes : List ℕ) : Type 0 where
+  pub paired : inSession (tables .connections) c d ≡ true
+  pub sent : RelayedOnly call o bytes d
+  pub connections : o .tables .connections ≡ tables .connections
+  pub leases : o .tables .leases ≡ tables .leases
+
+-- no record and no row changes
+pub record TablesStay (tables : Tables) (o : Outcome) : Type 0 where
+  pub connections : o .tables .connections ≡ tables .connections
+  pub leases : o .tables .leases ≡ tables .leases
+
+-- A close: "sets byte 12 to 255 in the partner's rows that name this connection, puts its record back to fresh"
+pub record Closed (tables : Tables) (c : ℕ) (o : Outcome) : Type 0 where
+  pub own : FreshBut 0 (o .tables .connections) c
+  pub given-back : (r : ℕ) → ownerOf r ≡ partnerOf c → holder (tables .leases) r ≡ c → holder (o .tables .leases) r ≡ 255
+  pub other-rows : ChangedOnly
+      (λ i. (r : ℕ) × (ownerOf r ≡ partnerOf c) × (holder (tables .leases) r ≡ c) × (i ≡ holderAt r))
+      (tables .leases)
+      (o .tables .leases)
+
+-- "ends a session as type 9 does", if there is one with connection d
+pub record ClosedInSession (tables : Tables) (call : Call) (c d : ℕ) (o : Outcome) (told : List ℕ) : Type 0 where
+  pub sent : RelayedOnly call o told d
+  pub other : Cleared (o .tables .connections) d
+  pub others : ChangedOnly (λ i. InConnection c i ⊎ InSessionBytes d i) (tables .connections) (o .tables .connections)
+
+-- and else nothing is sent, and no other record changes
+pub record ClosedAlone (tables : Tables) (call : Call) (c : ℕ) (o : Outcome) : Type 0 where
+  pub sent : SentNothing call o false
+  pub others : ChangedOnly (InConnection c) (tables .connections) (o .tables .connections)
+
+-- "4 if the caller has a session; 1 if no live row of its partner has the id; 2 if the lowest such row has no holder that counts; 5 if that
+-- holder is the caller; 3 if it has a session; else 0": of connection c, where r is the lowest such row, and d what is decided
+pub record Statuses (cs ls : List ℕ) (c r : ℕ) (d : EstablishDecision) : Type 0 where
+  pub four : hasSession cs c ≡ true → d ≡ refusedWith 4
+  pub one : hasSession cs c ≡ false → endRow (partnerOf c) ≤ r → d ≡ refusedWith 1
+  pub two : hasSession cs c ≡ false → r < endRow (partnerOf c) → holderCounts cs ls r ≡ false → d ≡ refusedWith 2
+  pub five : hasSession cs c ≡ false → r < endRow (partnerOf c) → holderCounts cs ls r ≡ true → holder ls r ≡ c → d ≡ refusedWith 5
+  pub three : hasSession cs c ≡ false → r < endRow (partnerOf c) → holderCounts cs ls r ≡ true → holder ls r ≢ c
+      → hasSession cs (holder ls r) ≡ true → d ≡ refusedWith 3
+  pub zero : hasSession cs c ≡ false → r < endRow (partnerOf c) → holderCounts cs ls r ≡ true → holder ls r ≢ c
+      → hasSession cs (holder ls r) ≡ false → d ≡ establishedWith (holder ls r)
+
+-- ---- leases
+
+-- r is the lowest row of the partner that passes a test, or, where none passes, the end of its rows
+pub record LowestOwn (p : ℕ) (test : ℕ → Bool) (r : ℕ) : Type 0 where
+  pub passes : r < endRow p → (ownerOf r ≡ p) × (test r ≡ true)
+  pub lower-fail : (k : ℕ) → ownerOf k ≡ p → k < r → test k ≡ false
+
+-- "fourteen candidates of four bytes, each taken modulo 67,108,864", from byte 24 on: candidate k, from 0
+abbrev pub candidateIn : List ℕ → ℕ → ℕ
+candidateIn random k = numberAt random (24 + 4 * k) 4 % 67108864
+
+-- "one is free if no live row of all 128 has it"
+abbrev pub FreeId : List ℕ → ℕ → ℕ → Type 0
+FreeId ls now id = (r : ℕ) → r < rowCount → live ls now r ≡ true → idOf ls r ≢ id
+
+-- "accepted exactly if the connection holds no live row, the partner has a row that isn't live, the draw's bytes 0-23 aren't the cookie of
+-- a live row of the partner, and one of the candidates is free"
+pub record LeaseConditions (ls : List ℕ) (now c : ℕ) (random : List ℕ) : Type 0 where
+  pub holds-none : (r : ℕ) → ownerOf r ≡ partnerOf c → live ls now r ≡ true → holder ls r ≢ c
+  pub spare : (r : ℕ) × (ownerOf r ≡ partnerOf c) × (live ls now r ≡ false)
+  pub new-cookie : (r : ℕ) → ownerOf r ≡ partnerOf c → live ls now r ≡ true → cookieOf ls r ≢ part random 0 24
+  pub free : (k : ℕ) × (k < 14) × FreeId ls now (candidateIn random k)
+
+abbrev pub isGranted : LeaseDecision → Bool
+isGranted holdsLease = false
+isGranted noSpareRow = false
+isGranted cookieInUse = false
+isGranted noFreeId = false
+isGranted (granted row id cookie) = true
+
+-- "The first free candidate goes into the lowest row that isn't live, with those 24 bytes as cookie"
+pub record FirstFree (ls : List ℕ) (now c : ℕ) (random : List ℕ) (row id : ℕ) (cookie : List ℕ) : Type 0 where
+  pub own : ownerOf row ≡ partnerOf c
+  pub spare : live ls now row ≡ false
+  pub lower-live : (k : ℕ) → ownerOf k ≡ partnerOf c → k < row → live ls now k ≡ true
+  pub place : ℕ
+  pub in-fourteen : place < 14
+  pub id-is : id ≡ candidateIn random place
+  pub free : FreeId ls now id
+  pub earlier-taken : (k : ℕ) → k < place → FreeId ls now (candidateIn random k) → ⊥
+  pub cookie-is : cookie ≡ part random 0 24
+
+-- what stands in a row
+pub record LeaseRow (ls : List ℕ) (r until id : ℕ) (cookie : List ℕ) (c : ℕ) : Type 0 where
+  pub expiry-is : expiry ls r ≡ until
+  pub id-is : idOf ls r ≡ id
+  pub cookie-is : cookieOf ls r ≡ cookie
+  pub holder-is : holder ls r ≡ c
+
+-- an accepted lease: "with those 24 bytes as cookie, this holder, expiry reading + 3,600"; bytes 13-15 stay
+pub record LeaseTold (tables : Tables) (call : Call) (row until id : ℕ) (cookie : List ℕ) (c : ℕ) (o : Outcome) (told : List ℕ) : Type 0 where
+  pub sent : RepliedOnly call o told
+  pub written : LeaseRow (o .tables .leases) row until id cookie c
+  pub others : ChangedOnly (λ i. InField leaseBytes row 0 13 i ⊎ InField leaseBytes row 16 24 i) (tables .leases) (o .tables .leases)
+  pub connections : o .tables .connections ≡ tables .connections
+
+-- "extended exactly if a live row of the partner, held by this connection, has that cookie"
+abbrev pub Extendable : List ℕ → ℕ → ℕ → List ℕ → Type 0
+Extendable ls now c cookie =
+    (r : ℕ) × (ownerOf r ≡ partnerOf c) × (live ls now r ≡ true) × (holder ls r ≡ c) × (cookieOf ls r ≡ cookie)
+
+-- "expiry becomes reading + 3,600"
+pub record ExtensionTold (tables : Tables) (call : Call) (row until : ℕ) (o : Outcome) (told : List ℕ) : Type 0 where
+  pub sent : RepliedOnly call o told
+  pub written : expiry (o .tables .leases) row ≡ until
+  pub others : ChangedOnly (InField leaseBytes row 0 8) (tables .leases) (o .tables .leases)
+  pub connections : o .tables .connections ≡ tables .connections
