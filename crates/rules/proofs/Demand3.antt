@@ -6,6 +6,7 @@ use Rattle.allowance.specs.Meter.{Fresh, Demand3}
 use Rattle.allowance.proofs.Demand3.{demand3}
 use Rattle.rules.specs.Sizes.{timeLimit}
 use Rattle.rules.specs.Tables.{Tables, fresh}
+use Rattle.rules.specs.Charges.{price}
 use Rattle.rules.specs.Checks.{checkStart}
 use Rattle.rules.specs.Step.{start, started}
 use Rattle.rules.specs.Runs.{relayMeter}
@@ -42,6 +43,7 @@ all = demand3 relayMeter relay-metered
 
 pub relay-demand3 : RelayDemand3
 relay-demand3 = record {
+  price-is-cost = λ tables call. unfold price in refl;
   every-run = λ lent now e calls. all .fresh-runs (start lent now .tables) now (start-is-fresh lent now e) calls;
   any-tables = λ tables calls. all .all-runs tables calls;
 }

@@ -1,28 +1,30 @@
 -- The laws that a reader wants of every call and every run; those of single messages and of a close are in MessageLaws. Assumes nothing.
 use Prim.Native.Nat.{ℕ, zero, suc, _+_, _≤_, _<_}
 use mathlib.Core.Path.{_≡_, refl, sym, _∙_}
-use mathlib.Core.Logic.{_≢_, _⊎_, _↔_}
-use mathlib.Core.Bool.{true, false}
+use mathlib.Core.Logic.{_≢_, _⊎_, inl, inr, ⊎-elim, _↔_}
+use mathlib.Core.Bool.{Bool, true, false}
 use mathlib.Core.List.{List, [], _∷_, _++_}
+use native.Mathlib.Omega.{arith}
 use native.Mathlib.Decide.{ℕ-discrete}
-use lib.ListN.{getD}
-use borrow.Author.Tests.{ne-eqb, lt-leb, not-false}
-use Rattle.octets.proofs.Tests.{and-false}
-use Rattle.allowance.specs.Bucket.{levelNow}
+use Rattle.octets.specs.Octets.{if_then_else_, bigEndian, numberAt}
+use Rattle.allowance.specs.Bucket.{Bucket, levelNow}
 use Rattle.allowance.specs.History.{levelFromHistory, latest, NonePaid}
-use Rattle.rules.specs.Sizes.{partners, nobody, timeLimit}
-use Rattle.rules.specs.Tables.{Tables, inSession, bucketOf, clock, sized, fresh}
+use Rattle.rules.specs.Sizes.{partners, allowanceBytes, nobody}
+use Rattle.rules.specs.Tables.{Tables, allowanceAt, updatedAt, bucketBytes, setBucket, setClock, inSession, bucketOf, clock, fresh}
 use Rattle.rules.specs.Calls.{Call, timeOf, connectionOf, callerOf, Outcome}
 use Rattle.rules.specs.Plans.{plan}
-use Rattle.rules.specs.Charges.{charged, received, cost, price}
-use Rattle.rules.specs.Checks.{precheck, wrongSize, pastLimit, checkStart}
+use Rattle.rules.specs.Charges.{charged, received, cost, price, charge}
+use Rattle.rules.specs.Checks.{precheck, checkStart}
 use Rattle.rules.specs.Step.{step, done, start, started}
 use Rattle.rules.specs.Runs.{after, history}
+use Rattle.rules.specs.Bytes.{ChangedOnly, InField}
 use Rattle.rules.specs.Laws.{Accepted, Unchanged, WithinPartner, DistinctIds}
-use Rattle.rules.proofs.Checks.{none-applies, all-pass, Passed, passed}
+use Rattle.rules.proofs.Checks.{Passed, passed}
 use Rattle.rules.proofs.Answers.{refused-leaves-all, is-done, done-passed}
-use Rattle.rules.proofs.Metered.{clock-takes-time, bucket-stored}
-use Rattle.rules.proofs.Demand3.{start-number, started-fresh, started-in-limit, relay-demand3}
+use Rattle.rules.proofs.Metered.{clock-takes-time}
+use Rattle.rules.proofs.Demand3.{started-fresh, relay-demand3}
+use Rattle.rules.proofs.Same.{same-refl, same-trans, same-number}
+use Rattle.rules.proofs.Changes.{changed-at}
 use Rattle.rules.proofs.Rows.{distinct-later, distinct-fresh}
 use Rattle.rules.proofs.Plans.{kindOf, every-plan}
 use Rattle.rules.proofs.Within.{each-within}
@@ -32,20 +34,7 @@ use Rattle.rules.proofs.Ids.{run-distinct}
 -- ---- making a fresh relay
 
 module _ (tables : Tables) (now : ℕ) where
-  -- It is answered with 0 exactly where the tables have their sizes and the time is below 2^40.
-  pub started-exactly : (start tables now .answer .number ≡ 0) ↔ ((sized tables ≡ true) × (now < timeLimit))
-  unfolding checkStart
-  started-exactly = (
-    (λ e. (not-false (sized tables) (none-applies 0 _ (sym (start-number tables now) ∙ e) 0), started-in-limit tables now e)),
-    (λ q. start-number tables now ∙ all-pass 1 (wrongSize tables ∷ pastLimit now ∷ []) (passes (q .0) (q .1))),
-  )
-    where
-      passes : sized tables ≡ true → now < timeLimit → (i : ℕ) → getD (wrongSize tables ∷ pastLimit now ∷ []) i false ≡ false
-      passes s l zero = rw s
-      passes s l (suc zero) = lt-leb timeLimit now l
-      passes s l (suc (suc i)) = refl
-
-  -- Then the tables are fresh, and else as they were.
+  -- Answered with 0, the tables are fresh, and else as they were. (When it is answered with which number: Refusals.start-exactly.)
   pub started-is-fresh : start tables now .answer .number ≡ 0 → start tables now .tables ≡ fresh now
   started-is-fresh = started-fresh tables now
 
@@ -62,6 +51,10 @@ module _ (tables : Tables) (now : ℕ) where
 module _ (tables : Tables) (call : Call) where
   abbrev o : Outcome
   o = step tables call
+
+  -- the places of the caller's allowance record, and of the clock
+  abbrev OwnAllowance : ℕ → Type 0
+  OwnAllowance i = InField allowanceBytes (callerOf call) 0 allowanceBytes i ⊎ InField allowanceBytes partners 8 8 i
 
   -- A refused call changes no byte, sends nothing and names no destination.
   pub refused-changes-nothing : o .answer .number ≢ 0 → Unchanged tables call o
@@ -86,13 +79,36 @@ module _ (tables : Tables) (call : Call) where
           (refused-leaves-all tables call n)
           (record { connections = λ c n. refl; leases = λ r n. refl; destination = λ n. absurd (n refl) })
 
-  -- Nor does it change the allowance of another.
-  pub own-allowance-only : (p : ℕ) → p < partners → callerOf call ≢ p
-      → bucketOf (o .tables .allowances) p ≡ bucketOf (tables .allowances) p
-  own-allowance-only p p< n = go (ℕ-discrete (o .answer .number) 0)
+  -- Of the allowance table it changes its partner's record and the clock alone.
+  pub own-allowance-only : ChangedOnly OwnAllowance (tables .allowances) (o .tables .allowances)
+  unfolding done charge bucketBytes bigEndian
+  own-allowance-only = go (ℕ-discrete (o .answer .number) 0)
     where
-      go : Dec (Accepted tables call) → bucketOf (o .tables .allowances) p ≡ bucketOf (tables .allowances) p
-      go (yes e) = bucket-stored tables call e p p< ∙ rw (ne-eqb (callerOf call) p n, and-false (charged call))
+      charged-table : List ℕ
+      charged-table = charge (tables .allowances) call (price tables call)
+
+      at-clock : ChangedOnly OwnAllowance charged-table (setClock charged-table (timeOf call))
+      at-clock = changed-at charged-table (updatedAt partners) (bigEndian 8 (timeOf call)) (λ i l u. inr (l, u))
+
+      at-record : (k : Bool) (b : Bucket) → ChangedOnly OwnAllowance (tables .allowances) (if k then setBucket (tables .allowances) (callerOf call) b else tables .allowances)
+      at-record true b = changed-at (tables .allowances) (allowanceAt (callerOf call)) (bucketBytes b) (λ i l u. inl (omega arith, omega arith))
+      at-record false b = same-refl (tables .allowances)
+
+      go : Dec (Accepted tables call) → ChangedOnly OwnAllowance (tables .allowances) (o .tables .allowances)
+      go (yes e) = rw (is-done tables call e) (same-trans (at-record (charged call) _) at-clock)
+      go (no m) = rw (refused-leaves-all tables call m) (same-refl (tables .allowances))
+
+  -- The ninth level stays what it was.
+  pub ninth-level-stays : numberAt (o .tables .allowances) (allowanceAt partners) 8 ≡ numberAt (tables .allowances) (allowanceAt partners) 8
+  ninth-level-stays = go (ℕ-discrete (o .answer .number) 0)
+    where
+      go : Dec (Accepted tables call)
+          → numberAt (o .tables .allowances) (allowanceAt partners) 8 ≡ numberAt (tables .allowances) (allowanceAt partners) 8
+      go (yes e) =
+          let p< = passed tables call (done-passed tables call e) .of-partner in
+          sym
+          (same-number own-allowance-only (allowanceAt partners) 8
+          (λ i l u. ⊎-elim (λ a. omega (arith, a .1)) (λ b. omega (arith, b .0))))
       go (no m) = rw (refused-leaves-all tables call m)
 
   module _ (e : Accepted tables call) where

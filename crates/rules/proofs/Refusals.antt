@@ -6,6 +6,7 @@ use mathlib.Core.Bool.{Bool, true, false, not, _&&_, _||_, true≢false, false�
 use mathlib.Core.Option.{Option, none, some}
 use mathlib.Core.List.{List, [], _∷_, map}
 use native.Mathlib.Omega.{arith}
+use native.Mathlib.Decide.{decLe}
 use lib.Dec.{eqb, leb, ltb}
 use lib.ListN.{length, getD}
 use borrow.Author.Tests.{ltb-true, lt-ltb, leb-true, le-leb, eqb-true, eq-eqb, not-true, not-false}
@@ -13,14 +14,15 @@ use Rattle.octets.proofs.Tests.{both-left, both-right, by-test}
 use Rattle.svsc.specs.Messages.{Message, sentByPeers, typeOf, isSome, decode, fromPeer, typesIn}
 use Rattle.rules.specs.Sizes.{connectionCount, connectionsSize, leasesSize, allowancesSize, timeLimit, randomBytes, leastBuffer}
 use Rattle.rules.specs.Tables.{Tables, closed, awaiting, opened, state, inSession, hasSession, clock, sized}
-use Rattle.rules.specs.Calls.{Call, opening, message, closing, timeOf, connectionOf}
+use Rattle.rules.specs.Calls.{Call, opening, message, closing, timeOf, connectionOf, Answer}
 use Rattle.rules.specs.Charges.{cost, price, callerLevel}
-use Rattle.rules.specs.Checks.{wrongTime, wrongState, wrongLengths, notFromPeer, permitted, permits, notPermitted, noSession, aboveLevel, firstEight, checks, check}
-use Rattle.rules.specs.Step.{step}
-use Rattle.rules.specs.Refusals.{Applies, RightSizes, InWrongState, OfWrongLengths, SentByPeer, NotSentByPeer, NotPermittedHere, WithoutSession, EachExactly}
+use Rattle.rules.specs.Checks.{wrongTime, wrongState, wrongLengths, notFromPeer, permitted, permits, notPermitted, noSession, aboveLevel, firstEight, checks, firstApplying, check, checkStart}
+use Rattle.rules.specs.Step.{step, start, started}
+use Rattle.rules.specs.Refusals.{Applies, RightSizes, InWrongState, OfWrongLengths, SentByPeer, NotSentByPeer, NotPermittedHere, WithoutSession, EachExactly, StartExactly}
 use Rattle.rules.proofs.Connections.{session-with}
 use Rattle.rules.proofs.Checks.{none-applies, all-pass, first-applies, applied-first, at-most}
 use Rattle.rules.proofs.Answers.{answer-is-check}
+use Rattle.rules.proofs.Demand3.{start-number}
 
 -- ---- tests, and the statements that they decide
 
@@ -163,3 +165,53 @@ module _ (tables : Tables) (call : Call) where
         (first .0, λ k l u h. true≢false (sym h ∙ first .1 (k - 1) (omega arith)))),
     (λ q. first-applies 1 (checks tables call) (n - 1) (q .0) (λ i u. fails i (q .1 (suc i) (omega arith) (omega arith))) ∙ omega arith),
   )
+
+-- ---- making a fresh relay
+
+module _ (tables : Tables) (now : ℕ) where
+  -- what the two tests, of the sizes and of the time, come to
+  by-tests : (s t : Bool) → (s ≡ true) ↔ RightSizes tables → (t ≡ true) ↔ (timeLimit ≤ now) → (a : Answer)
+      → a .number ≡ firstApplying 1 (not s ∷ t ∷ [])
+      → a ≡ record { number = a .number; replyLength = 0; relayLength = 0; destination = 255; disconnect = false }
+      → StartExactly tables now a
+  unfolding firstApplying
+  by-tests false t right late a e sent = record {
+    done = ((λ z. absurd (omega arith)), (λ q. absurd (false≢true (right .1 (q .0)))));
+    one = ((λ z q. false≢true (right .1 q)), (λ n. e));
+    two = ((λ z. absurd (omega arith)), (λ q. absurd (false≢true (right .1 (q .0)))));
+    at-most = omega arith;
+    nothing-sent = sent;
+  }
+  by-tests true true right late a e sent = record {
+    done = ((λ z. absurd (omega arith)), (λ q. absurd (omega (arith, late .0 refl, q .1))));
+    one = ((λ z. absurd (omega arith)), (λ n. absurd (n (right .0 refl))));
+    two = ((λ z. (right .0 refl, late .0 refl)), (λ q. e));
+    at-most = omega arith;
+    nothing-sent = sent;
+  }
+  by-tests true false right late a e sent = record {
+    done = ((λ z. (right .0 refl, leb-false-of late)), (λ q. e));
+    one = ((λ z. absurd (omega arith)), (λ n. absurd (n (right .0 refl))));
+    two = ((λ z. absurd (omega arith)), (λ q. absurd (false≢true (late .1 (q .1)))));
+    at-most = omega arith;
+    nothing-sent = sent;
+  }
+    where
+      leb-false-of : (false ≡ true) ↔ (timeLimit ≤ now) → now < timeLimit
+      leb-false-of late = go (decLe timeLimit now)
+        where
+          go : Dec (timeLimit ≤ now) → now < timeLimit
+          go (yes l) = absurd (false≢true (late .1 l))
+          go (no l) = omega arith
+
+  pub start-exactly : StartExactly tables now (start tables now .answer)
+  unfolding start checkStart
+  start-exactly =
+      by-tests (sized tables) (leb timeLimit now) (right-sizes tables) (le-exactly timeLimit now) (start tables now .answer)
+      (start-number tables now)
+      (go (checkStart tables now))
+    where
+      go : (n : ℕ) → started n tables now .answer
+          ≡ record { number = started n tables now .answer .number; replyLength = 0; relayLength = 0; destination = 255; disconnect = false }
+      go zero = refl
+      go (suc n) = refl

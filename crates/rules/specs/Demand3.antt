@@ -6,6 +6,7 @@ use Rattle.allowance.specs.History.{Bounded}
 use Rattle.allowance.specs.Meter.{Claim}
 use Rattle.rules.specs.Tables.{Tables}
 use Rattle.rules.specs.Calls.{Call}
+use Rattle.rules.specs.Charges.{cost, price}
 use Rattle.rules.specs.Step.{start}
 use Rattle.rules.specs.Runs.{relayMeter, history}
 
@@ -13,6 +14,8 @@ use Rattle.rules.specs.Runs.{relayMeter, history}
 -- mean: the level is `levelNow` of the partner's allowance record, an answer is that of `step`, "every earlier check" is `precheck`,
 -- checks 1 to 8, a call's price is its `cost`, 32 and the bytes received, and any call can be paid after two seconds.
 pub record RelayDemand3 : Type 0 where
+  -- What is compared with the level, and what is charged, is 01's cost, of every call on any tables.
+  pub price-is-cost : (tables : Tables) (call : Call) → price tables call ≡ cost call
   -- "A run is a fresh start answered with 0 and then any list of opens, messages and closes, refused ones included."
   pub every-run : (lent : Tables) (now : ℕ) → start lent now .answer .number ≡ 0 → (calls : List Call)
       → Claim relayMeter (start lent now .tables) now calls

@@ -10,7 +10,7 @@ use Rattle.svsc.specs.Messages.{Message, sentByPeers, typeOf, decode}
 use Rattle.allowance.specs.Bucket.{levelNow}
 use Rattle.rules.specs.Sizes.{connectionCount, connectionsSize, leasesSize, allowancesSize, timeLimit, randomBytes, leastBuffer}
 use Rattle.rules.specs.Tables.{Tables, closed, state, inSession, bucketOf, clock}
-use Rattle.rules.specs.Calls.{Call, opening, message, closing, timeOf, connectionOf, callerOf}
+use Rattle.rules.specs.Calls.{Call, opening, message, closing, timeOf, connectionOf, callerOf, Answer}
 use Rattle.rules.specs.Charges.{cost}
 use Rattle.rules.specs.Checks.{permits, checks}
 
@@ -75,3 +75,11 @@ pub record EachExactly (tables : Tables) (call : Call) : Type 0 where
   pub eight : Applies 8 tables call ↔ WithoutSession (tables .connections) call
   -- "the charge exceeds the partner's level"
   pub nine : Applies 9 tables call ↔ (levelNow (bucketOf (tables .allowances) (callerOf call)) (timeOf call) < cost call)
+
+-- "Making a fresh relay has checks 1 and 2 and no trays.": what a start is answered with, and that it sends nothing
+pub record StartExactly (tables : Tables) (now : ℕ) (a : Answer) : Type 0 where
+  pub done : (a .number ≡ 0) ↔ (RightSizes tables × (now < timeLimit))
+  pub one : (a .number ≡ 1) ↔ (RightSizes tables → ⊥)
+  pub two : (a .number ≡ 2) ↔ (RightSizes tables × (timeLimit ≤ now))
+  pub at-most : a .number ≤ 2
+  pub nothing-sent : a ≡ record { number = a .number; replyLength = 0; relayLength = 0; destination = 255; disconnect = false }
