@@ -1,14 +1,21 @@
--- The fields of fresh tables. Assumes nothing.
-use Prim.Native.Nat.{ℕ, _+_, _*_, _<_}
-use mathlib.Core.Path.{_≡_, refl}
-use mathlib.Core.List.{List, [], append-nil}
+-- Fresh tables as 01 draws them, byte by byte. Assumes nothing.
+use Prim.Native.Nat.{ℕ, zero, suc, _+_, _*_, _<_}
+use mathlib.Core.Path.{_≡_, refl, sym, ap, _∙_}
+use mathlib.Core.List.{List, [], _∷_, _++_, append-nil}
 use native.Mathlib.Omega.{arith}
-use lib.ListN.{length}
-use Rattle.octets.specs.Octets.{numberFrom, number, part, numberAt, bigEndian}
-use Rattle.rules.specs.Sizes.{partners, connectionCount, rowCount}
-use Rattle.rules.specs.Tables.{allowanceAt, records, freshConnection, freshLease, bucketBytes, fresh}
-use Rattle.rules.proofs.Allowances.{part-records}
+use native.Mathlib.Decide.{ℕ-discrete}
+use lib.Dec.{eqb}
+use lib.ListN.{length, replicate}
+use borrow.Author.Tests.{eq-eqb, ne-eqb}
+use Rattle.octets.specs.Octets.{if_then_else_, byteAt, numberFrom, number, part, numberAt, bigEndian}
+use Rattle.rules.specs.Sizes.{partners, connectionCount, rowCount, leaseBytes, timeLimit}
+use Rattle.rules.specs.Tables.{allowanceAt, leaseAt, bucketOf, clock, records, freshConnection, freshLease, bucketBytes, fresh}
 use Rattle.rules.specs.Reading.{connectionRecord, leaseRecord}
+use Rattle.rules.specs.Effects.{FreshBut}
+use Rattle.rules.specs.Refusals.{RightSizes}
+use Rattle.rules.proofs.Records.{byte-part}
+use Rattle.rules.proofs.Connections.{fresh-record}
+use Rattle.rules.proofs.Allowances.{part-records, fresh-bucket}
 
 -- each of several equal records, with nothing behind them
 whole-record : (r : List ℕ) (count k : ℕ) → k < count → part (records count r) (length r * k) (length r) ≡ part r 0 (length r)
@@ -17,16 +24,45 @@ whole-record r count k h =
     rw (z, append-nil (records count r)) at (part-records r [] 0 (length r) (omega arith) count k h)
 
 -- "connections all zero but byte 1 = 255"
-pub fresh-connection : (now c : ℕ) → c < connectionCount → connectionRecord (fresh now .connections) c ≡ freshConnection
+pub fresh-connection : (now c : ℕ) → c < connectionCount → FreshBut 0 (fresh now .connections) c
 unfolding fresh part
-fresh-connection now c h = whole-record freshConnection connectionCount c h
+fresh-connection now c h = fresh-record _ c (whole-record freshConnection connectionCount c h)
+
+-- all zero, and all zero but one byte
+pub zeros : (k i : ℕ) → byteAt (replicate k 0) i ≡ 0
+zeros zero i = refl
+zeros (suc k) zero = refl
+zeros (suc k) (suc i) = zeros k i
+
+one-byte : (n v k i : ℕ) → byteAt (replicate n 0 ++ (v ∷ replicate k 0)) i ≡ (if eqb i n then v else 0)
+one-byte zero v k zero = refl
+one-byte zero v k (suc i) = rw (ne-eqb (suc i) 0 (λ e. omega arith)) (zeros k i)
+one-byte (suc n) v k zero = rw (ne-eqb 0 (suc n) (λ e. omega arith))
+one-byte (suc n) v k (suc i) = one-byte n v k i ∙ go (ℕ-discrete i n)
+  where
+    go : Dec (i ≡ n) → (if eqb i n then v else 0) ≡ (if eqb (suc i) (suc n) then v else 0)
+    go (yes e) = rw (eq-eqb i n e, eq-eqb (suc i) (suc n) (ap suc e))
+    go (no d) = rw (ne-eqb i n d, ne-eqb (suc i) (suc n) (λ e. d (omega arith)))
 
 -- "leases all zero but byte 12 = 255"
-pub fresh-row : (now r : ℕ) → r < rowCount → leaseRecord (fresh now .leases) r ≡ freshLease
+pub fresh-row : (now r : ℕ) → r < rowCount → (i : ℕ) → i < leaseBytes
+    → byteAt (fresh now .leases) (leaseAt r + i) ≡ (if eqb i 12 then 255 else 0)
 unfolding fresh part
-fresh-row now r h = whole-record freshLease rowCount r h
+fresh-row now r h i l =
+    sym (byte-part (records rowCount freshLease) (leaseAt r) leaseBytes i l)
+    ∙ ap (λ (x : List ℕ). byteAt x i) (whole-record freshLease rowCount r h)
+    ∙ one-byte 12 255 27 i
 
--- "the ninth 0"
+-- "the eight partners' levels 262,144, the ninth 0, every moment t"
+pub fresh-allowance : (now p : ℕ) → now < timeLimit → p < partners
+    → bucketOf (fresh now .allowances) p ≡ record { level = 262144; updated = now }
+fresh-allowance now p t h = fresh-bucket now t p h
+
 pub fresh-ninth : (now : ℕ) → numberAt (fresh now .allowances) (allowanceAt partners) 8 ≡ 0
 unfolding fresh numberAt number numberFrom records bucketBytes bigEndian part
 fresh-ninth now = refl
+
+-- and no byte more
+pub fresh-sizes : (now : ℕ) → RightSizes (fresh now)
+unfolding fresh records bucketBytes bigEndian
+fresh-sizes now = record { connections = refl; leases = refl; allowances = refl }

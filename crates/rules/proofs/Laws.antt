@@ -18,7 +18,7 @@ use Rattle.rules.specs.Checks.{precheck, checkStart}
 use Rattle.rules.specs.Step.{step, done, start, started}
 use Rattle.rules.specs.Runs.{after, history}
 use Rattle.rules.specs.Bytes.{ChangedOnly, InField}
-use Rattle.rules.specs.Laws.{Accepted, Unchanged, WithinPartner, DistinctIds}
+use Rattle.rules.specs.Laws.{Accepted, Unchanged, WithinPartner, DistinctIds, SpareZero}
 use Rattle.rules.proofs.Checks.{Passed, passed}
 use Rattle.rules.proofs.Answers.{refused-leaves-all, is-done, done-passed}
 use Rattle.rules.proofs.Metered.{clock-takes-time}
@@ -30,6 +30,7 @@ use Rattle.rules.proofs.Plans.{kindOf, every-plan}
 use Rattle.rules.proofs.Within.{each-within}
 use Rattle.rules.proofs.Sessions.{Relays, each-relays}
 use Rattle.rules.proofs.Ids.{run-distinct}
+use Rattle.rules.proofs.Spare.{fresh-spare, run-spare}
 
 -- ---- making a fresh relay
 
@@ -141,6 +142,10 @@ module _ (lent : Tables) (now : ℕ) (e : start lent now .answer .number ≡ 0) 
   -- Live ids stay distinct, at any time from the clock on.
   pub live-ids-distinct : (calls : List Call) (t : ℕ) → clock (after made calls .allowances) ≤ t → DistinctIds (after made calls .leases) t
   live-ids-distinct calls t l = distinct-later _ _ t l (run-distinct calls made (rw (started-fresh lent now e) (distinct-fresh now _)))
+
+  -- Bytes 2-15 of every connection record and 13-15 of every lease row are zero.
+  pub spare-bytes-zero : (calls : List Call) → SpareZero (after made calls)
+  spare-bytes-zero calls = run-spare calls made (rw (started-fresh lent now e) (fresh-spare now))
 
   -- Demand 3 in the relay's words, three fields of `Claim`. Refused with 9 exactly when no check from 1 to 8 applies, the call is charged,
   -- and it costs more than the history before it leaves.

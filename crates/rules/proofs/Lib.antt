@@ -4,8 +4,8 @@ pub mod Searches
 pub mod Records
 pub mod Same
 pub mod Allowances
-pub mod Fresh
 pub mod Connections
+pub mod Fresh
 pub mod Rows
 pub mod Changes
 pub mod Messages
@@ -19,6 +19,7 @@ pub mod Plans
 pub mod Within
 pub mod Sessions
 pub mod Ids
+pub mod Spare
 pub mod Room
 pub mod Disconnects
 pub mod Metered

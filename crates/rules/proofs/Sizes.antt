@@ -1,7 +1,7 @@
 -- The named sizes are 01's numbers. Assumes nothing.
 use Prim.Native.Nat.{_^_}
 use mathlib.Core.Path.{_≡_, refl}
-use Rattle.rules.specs.Sizes.{partners, connectionCount, rowCount, connectionsSize, leasesSize, allowancesSize, nobody, timeLimit, idLimit}
+use Rattle.rules.specs.Sizes.{partners, connectionsPerPartner, rowsPerPartner, connectionCount, rowCount, connectionBytes, leaseBytes, allowanceBytes, connectionsSize, leasesSize, allowancesSize, nobody, timeLimit, randomBytes, leastBuffer, callCost, retryAfter, leaseTerm, candidateCount, candidateBytes, idLimit}
 use Rattle.rules.specs.Tables.{closed, awaiting, opened}
 
 -- "a table isn't 4,096, 5,120 or 144 bytes"
@@ -19,3 +19,14 @@ states = (refl, refl, refl, refl)
 -- "2^40 or more"; "modulo 67,108,864"
 pub limits : (timeLimit ≡ 2 ^ 40) × (idLimit ≡ 67108864)
 limits = (refl, refl)
+
+-- "records of 64 bytes", "of 40 bytes", "of 16 bytes"; "draw not 80 bytes", "under 64"
+pub lengths :
+    (connectionBytes ≡ 64) × (leaseBytes ≡ 40) × (allowanceBytes ≡ 16) × (randomBytes ≡ 80) × (leastBuffer ≡ 64)
+lengths = (refl, refl, refl, refl, refl)
+
+-- "c / 8", "16p to 16p+15"; "32 plus its length"; "two seconds"; "reading + 3,600"; "fourteen candidates of four bytes"
+pub rates :
+    (connectionsPerPartner ≡ 8) × (rowsPerPartner ≡ 16) × (callCost ≡ 32) × (retryAfter ≡ 2) × (leaseTerm ≡ 3600)
+    × (candidateCount ≡ 14) × (candidateBytes ≡ 4)
+rates = (refl, refl, refl, refl, refl, refl, refl)

@@ -1,0 +1,229 @@
+-- Bytes 2-15 of a connection record and 13-15 of a lease row: zero in fresh tables, and still zero after every call. Assumes nothing.
+use Prim.Native.Nat.{ℕ, zero, suc, _+_, _/_, _%_, _≤_, _<_}
+use mathlib.Core.Path.{_≡_, refl, sym, ap, _∙_}
+use mathlib.Core.Logic.{_≢_}
+use mathlib.Core.Bool.{Bool, true, false}
+use mathlib.Core.List.{List, [], _∷_}
+use native.Mathlib.Omega.{arith}
+use native.Mathlib.Decide.{ℕ-discrete, decLt}
+use lib.Dec.{eqb, ltb, lit≤}
+use lib.ListN.{length, set, replicate}
+use lib.Seq.{getD-set-same, getD-set-other, set-out}
+use borrow.Author.Tests.{ne-eqb}
+use Rattle.octets.specs.Octets.{if_then_else_, byteAt, bigEndian, put}
+use Rattle.octets.proofs.Parts.{byte-past}
+use Rattle.octets.proofs.Numbers.{length-bigEndian}
+use Rattle.svsc.specs.Messages.{cookieBytes}
+use Rattle.allowance.specs.Meter as meter
+use Rattle.rules.specs.Sizes.{rowsPerPartner, connectionCount, rowCount, connectionBytes, leaseBytes, nobody}
+use Rattle.rules.specs.Searches.{firstRow, endRow}
+use Rattle.rules.specs.Tables.{Tables, partnerOf, connectionAt, peerAt, keysAt, keysBytes, awaiting, opened, peer, hasSession, setState, setPeer, leaseAt, idAt, holderAt, cookieAt, setExpiry, setId, setHolder, freshConnection, fresh}
+use Rattle.rules.specs.Leases.{LeaseDecision, holdsLease, noSpareRow, cookieInUse, noFreeId, granted, decideLease, leaseEnd, grant, rowToExtend, releaseFrom, release}
+use Rattle.rules.specs.Sessions.{EstablishDecision, refusedWith, establishedWith, decideEstablish, clear, await, join, leave, endSession, establish}
+use Rattle.rules.specs.Calls.{Call, timeOf, connectionOf}
+use Rattle.rules.specs.Charges.{received}
+use Rattle.rules.specs.Plans.{Plan, planOpen, planVersionAnswer, planLease, planExtension, planEstablish, planEnd, planData, planClose}
+use Rattle.rules.specs.Step.{step, done}
+use Rattle.rules.specs.Runs.{after}
+use Rattle.rules.specs.Laws.{SpareZero}
+use Rattle.rules.proofs.Records.{length-part-most}
+use Rattle.rules.proofs.Connections.{keys-most}
+use Rattle.rules.proofs.Rows.{by-holder}
+use Rattle.rules.proofs.Fresh.{zeros, fresh-connection, fresh-row, fresh-sizes}
+use Rattle.rules.proofs.Answers.{refused-leaves-all, is-done, done-passed}
+use Rattle.rules.proofs.Decisions.{is-granted}
+use Rattle.rules.proofs.Plans.{Each, kindOf, every-plan, by-test}
+
+-- a byte that is zero stays so where a store puts zero there, or stores elsewhere
+zero-put : (xs : List ℕ) (at : ℕ) (vs : List ℕ) (i : ℕ) → byteAt xs i ≡ 0 → ((j : ℕ) → at + j ≡ i → byteAt vs j ≡ 0)
+    → byteAt (put xs at vs) i ≡ 0
+unfolding put
+zero-put xs at [] i z h = z
+zero-put xs at (v ∷ vs) i z h =
+    zero-put (set xs at v) (suc at) vs i (go (ℕ-discrete i at) (decLt at (length xs))) (λ j e. h (suc j) (omega arith))
+  where
+    go : Dec (i ≡ at) → Dec (at < length xs) → byteAt (set xs at v) i ≡ 0
+    go (no n) l = getD-set-other xs at i v 0 n ∙ z
+    go (yes e) (yes l) = rw e (getD-set-same xs at v 0 l ∙ h 0 (omega arith))
+    go (yes e) (no l) = rw (set-out xs at v (omega arith)) z
+
+-- a store of at most n bytes that meets no such place
+short-put : (xs : List ℕ) (at n : ℕ) (vs : List ℕ) (i : ℕ) → length vs ≤ n → byteAt xs i ≡ 0 → (at ≤ i → i < at + n → ⊥)
+    → byteAt (put xs at vs) i ≡ 0
+short-put xs at n vs i long z apart = zero-put xs at vs i z (λ j e. byte-past vs j (omega (arith, far j e)))
+  where
+    far : (j : ℕ) → at + j ≡ i → length vs ≤ j
+    far j e = go (decLt j n)
+      where
+        go : Dec (j < n) → length vs ≤ j
+        go (yes l) = absurd (apart (omega arith) (omega arith))
+        go (no l) = omega arith
+
+-- ---- the writings
+
+module _ (i : ℕ) (low : 2 ≤ i % connectionBytes) (high : i % connectionBytes < 16) where
+  state-zero : (cs : List ℕ) (c s : ℕ) → byteAt cs i ≡ 0 → byteAt (setState cs c s) i ≡ 0
+  state-zero cs c s z = short-put cs (connectionAt c) 1 (s ∷ []) i (omega arith) z (λ l u. omega arith)
+
+  clear-zero : (cs : List ℕ) (c : ℕ) → byteAt cs i ≡ 0 → byteAt (clear cs c) i ≡ 0
+  unfolding clear
+  clear-zero cs c z = zero-put cs (connectionAt c) freshConnection i z go
+    where
+      go : (j : ℕ) → connectionAt c + j ≡ i → byteAt freshConnection j ≡ 0
+      go zero e = refl
+      go (suc zero) e = absurd (omega arith)
+      go (suc (suc j)) e = zeros 62 j
+
+  join-zero : (cs : List ℕ) (c other : ℕ) (keys : List ℕ) → length keys ≤ keysBytes → byteAt cs i ≡ 0 → byteAt (join cs c other keys) i ≡ 0
+  unfolding join
+  join-zero cs c other keys h z =
+      short-put (setPeer cs c other) (keysAt c) keysBytes keys i h
+      (short-put cs (peerAt c) 1 (other ∷ []) i (omega arith) z (λ l u. omega arith))
+      (λ l u. omega arith)
+
+  end-zero : (cs : List ℕ) (c d : ℕ) → byteAt cs i ≡ 0 → byteAt (endSession cs c d) i ≡ 0
+  unfolding endSession leave
+  end-zero cs c d z =
+      join-zero (leave cs c) d nobody (replicate keysBytes 0) (lit≤ tt) (join-zero cs c nobody (replicate keysBytes 0) (lit≤ tt) z)
+
+module _ (i : ℕ) (low : 13 ≤ i % leaseBytes) (high : i % leaseBytes < 16) where
+  expiry-zero : (ls : List ℕ) (r until : ℕ) → byteAt ls i ≡ 0 → byteAt (setExpiry ls r until) i ≡ 0
+  expiry-zero ls r until z = short-put ls (leaseAt r) 8 (bigEndian 8 until) i (omega (arith, length-bigEndian 8 until)) z (λ l u. omega arith)
+
+  holder-zero : (ls : List ℕ) (r c : ℕ) → byteAt ls i ≡ 0 → byteAt (setHolder ls r c) i ≡ 0
+  holder-zero ls r c z = short-put ls (holderAt r) 1 (c ∷ []) i (omega arith) z (λ l u. omega arith)
+
+  grant-zero : (ls : List ℕ) (r until id : ℕ) (cookie : List ℕ) (c : ℕ) → length cookie ≤ cookieBytes → byteAt ls i ≡ 0
+      → byteAt (grant ls r until id cookie c) i ≡ 0
+  unfolding grant
+  grant-zero ls r until id cookie c h z =
+      let with-id = short-put (setExpiry ls r until) (idAt r) 4 (bigEndian 4 id) i (omega (arith, length-bigEndian 4 id))
+      (expiry-zero ls r until z) (λ l u. omega arith) in
+      short-put _ (cookieAt r) cookieBytes cookie i h (holder-zero (setId (setExpiry ls r until) r id) r c with-id) (λ l u. omega arith)
+
+  release-zero : (n : ℕ) (ls : List ℕ) (c r : ℕ) → byteAt ls i ≡ 0 → byteAt (releaseFrom ls c r n) i ≡ 0
+  unfolding releaseFrom
+  release-zero zero ls c r z = z
+  release-zero (suc n) ls c r z =
+      release-zero n _ c (suc r) (by-holder (λ l. byteAt l i ≡ 0) ls c r nobody (holder-zero ls r nobody z) z)
+
+-- ---- plans
+
+module _ (tables : Tables) (now c : ℕ) (zs : SpareZero tables) where
+  open Tables tables using (connections as cs, leases as ls, allowances as al)
+
+  record Zero (x : Plan) : Type 0 where
+    connections : (i : ℕ) → 2 ≤ i % connectionBytes → i % connectionBytes < 16 → byteAt (x .connections) i ≡ 0
+    leases : (i : ℕ) → 13 ≤ i % leaseBytes → i % leaseBytes < 16 → byteAt (x .leases) i ≡ 0
+
+  open-zero : Zero (planOpen tables c)
+  unfolding planOpen await
+  open-zero = record {
+    connections = λ i l u. state-zero i l u _ c awaiting (clear-zero i l u cs c (zs .connections i l u));
+    leases = zs .leases;
+  }
+
+  answer-zero : (ok : ℕ) → Zero (planVersionAnswer tables c ok)
+  unfolding planVersionAnswer
+  answer-zero ok =
+      by-test Zero (eqb ok 1)
+      (λ h. record { connections = λ i l u. state-zero i l u cs c opened (zs .connections i l u); leases = zs .leases })
+      (λ h. record { connections = λ i l u. clear-zero i l u cs c (zs .connections i l u); leases = zs .leases })
+
+  stay-zero : (reply relay : List ℕ) (d : ℕ) (u : Bool)
+      → Zero (record { reply = reply; relay = relay; destination = d; disconnect = u; connections = cs; leases = ls })
+  stay-zero reply relay d u = record { connections = zs .connections; leases = zs .leases }
+
+  lease-zero : (random : List ℕ) (d : LeaseDecision) → decideLease ls now c random ≡ d → Zero (planLease tables now c d)
+  unfolding planLease
+  lease-zero random holdsLease e = stay-zero _ _ _ _
+  lease-zero random noSpareRow e = stay-zero _ _ _ _
+  lease-zero random cookieInUse e = stay-zero _ _ _ _
+  lease-zero random noFreeId e = stay-zero _ _ _ _
+  lease-zero random (granted row id cookie) e =
+      let g = is-granted ls now c random row id cookie e in
+      record {
+        connections = zs .connections;
+        leases = λ i l u.
+            grant-zero i l u ls row (leaseEnd al now) id cookie c (rw (g .cookie-is) (length-part-most random 0 cookieBytes)) (zs .leases i l u);
+      }
+
+  extension-zero : (cookie : List ℕ) → Zero (planExtension tables now c cookie)
+  unfolding planExtension
+  extension-zero cookie =
+      by-test Zero (ltb (rowToExtend ls now c cookie) (endRow (partnerOf c)))
+      (λ h. record { connections = zs .connections; leases = λ i l u. expiry-zero i l u ls _ (leaseEnd al now) (zs .leases i l u) })
+      (λ h. stay-zero _ _ _ _)
+
+  establish-zero : (id : ℕ) (random : List ℕ) (d : EstablishDecision) → Zero (planEstablish tables c id random d)
+  unfolding planEstablish establish
+  establish-zero id random (refusedWith status) = stay-zero _ _ _ _
+  establish-zero id random (establishedWith h) = record {
+    connections = λ i l u.
+        join-zero i l u _ h c _ (keys-most random _ _) (join-zero i l u cs c h _ (keys-most random _ _) (zs .connections i l u));
+    leases = zs .leases;
+  }
+
+  end-plan-zero : Zero (planEnd tables c)
+  unfolding planEnd
+  end-plan-zero = record { connections = λ i l u. end-zero i l u cs c (peer cs c) (zs .connections i l u); leases = zs .leases }
+
+  close-zero : Zero (planClose tables c)
+  unfolding planClose release
+  close-zero =
+      let ended = by-test Zero (hasSession cs c) (λ h. end-plan-zero) (λ h. stay-zero [] [] nobody false) in
+      record {
+        connections = λ i l u. clear-zero i l u _ c (ended .connections i l u);
+        leases = λ i l u. release-zero i l u rowsPerPartner ls c (firstRow (partnerOf c)) (zs .leases i l u);
+      }
+
+  each-zero : (n kind : ℕ) → Each Zero tables now c n kind
+  unfolding planData
+  each-zero n kind = record {
+    open-plan = open-zero;
+    version-answer = λ t. answer-zero;
+    lease = λ random. lease-zero random (decideLease ls now c random) refl;
+    extension = extension-zero;
+    establish-plan = λ id random long o. establish-zero id random (decideEstablish cs ls now c id);
+    end-plan = λ h. end-plan-zero;
+    data-plan = λ h bytes l. stay-zero _ _ _ _;
+    no-plan = stay-zero _ _ _ _;
+    close-plan = close-zero;
+  }
+
+-- ---- calls, and runs
+
+pub spare-stays : (tables : Tables) (call : Call) → SpareZero tables → SpareZero (step tables call .tables)
+unfolding done
+spare-stays tables call zs = go (ℕ-discrete (step tables call .answer .number) 0)
+  where
+    go : Dec (step tables call .answer .number ≡ 0) → SpareZero (step tables call .tables)
+    go (yes e) =
+        let x = every-plan _ tables call (done-passed tables call e) (each-zero tables (timeOf call) (connectionOf call) zs (received call) (kindOf call)) in
+        rw (is-done tables call e) (record { connections = x .connections; leases = x .leases })
+    go (no n) = rw (refused-leaves-all tables call n) zs
+
+pub run-spare : (calls : List Call) (tables : Tables) → SpareZero tables → SpareZero (after tables calls)
+unfolding meter.after
+run-spare [] tables zs = zs
+run-spare (call ∷ calls) tables zs = run-spare calls (step tables call .tables) (spare-stays tables call zs)
+
+-- ---- fresh tables
+
+pub fresh-spare : (now : ℕ) → SpareZero (fresh now)
+fresh-spare now = record { connections = λ i l u. own i l u (decLt (i / connectionBytes) connectionCount); leases = λ i l u. row i l u (decLt (i / leaseBytes) rowCount) }
+  where
+    own : (i : ℕ) → 2 ≤ i % connectionBytes → i % connectionBytes < 16 → Dec (i / connectionBytes < connectionCount)
+        → byteAt (fresh now .connections) i ≡ 0
+    own i l u (yes h) =
+        let e : connectionAt (i / connectionBytes) + i % connectionBytes ≡ i = omega arith in
+        let j = i % connectionBytes in
+        (rw e at (fresh-connection now (i / connectionBytes) h j (omega arith)))
+        ∙ rw (ne-eqb j 0 (λ z. omega arith), ne-eqb j 1 (λ z. omega arith))
+    own i l u (no h) = byte-past (fresh now .connections) i (omega (arith, fresh-sizes now .connections))
+
+    row : (i : ℕ) → 13 ≤ i % leaseBytes → i % leaseBytes < 16 → Dec (i / leaseBytes < rowCount) → byteAt (fresh now .leases) i ≡ 0
+    row i l u (yes h) =
+        let e : leaseAt (i / leaseBytes) + i % leaseBytes ≡ i = omega arith in
+        (rw e at (fresh-row now (i / leaseBytes) h (i % leaseBytes) (omega arith))) ∙ rw (ne-eqb (i % leaseBytes) 12 (λ z. omega arith))
+    row i l u (no h) = byte-past (fresh now .leases) i (omega (arith, fresh-sizes now .leases))
