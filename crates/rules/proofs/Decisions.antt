@@ -79,7 +79,7 @@ module _ (ls : List ℕ) (now c : ℕ) (random : List ℕ) where
 
   candidate-small : (k : ℕ) → candidate random k < idLimit
   unfolding candidate
-  candidate-small k = mod-lt (numberAt random (cookieBytes + candidateBytes * k) candidateBytes) (lit< tt)
+  candidate-small k = mod-lt _ (lit< tt)
 
   pub is-granted : (row id : ℕ) (cookie : List ℕ) → decideLease ls now c random ≡ granted row id cookie
       → Granted ls now c random row id cookie
@@ -142,11 +142,11 @@ module _ (cs ls : List ℕ) (now c id : ℕ) where
   pub is-established : (h : ℕ) → decideEstablish cs ls now c id ≡ establishedWith h → Holding cs c h
   unfolding decideEstablish row
   is-established h e =
-      let a = past (hasSession cs c) e (λ z. other 4 z) in
-      let b = past (not (ltb row (endRow (partnerOf c)))) (a .1) (λ z. other 1 z) in
-      let d = past (not (holderCounts cs ls row)) (b .1) (λ z. other 2 z) in
-      let f = past (eqb (holder ls row) c) (d .1) (λ z. other 5 z) in
-      let g = past (hasSession cs (holder ls row)) (f .1) (λ z. other 3 z) in
+      let a = past (hasSession cs c) e (λ z. other _ z) in
+      let b = past (not (ltb row (endRow (partnerOf c)))) (a .1) (λ z. other _ z) in
+      let d = past (not (holderCounts cs ls row)) (b .1) (λ z. other _ z) in
+      let f = past (eqb (holder ls row) c) (d .1) (λ z. other _ z) in
+      let g = past (hasSession cs (holder ls row)) (f .1) (λ z. other _ z) in
       let h-is : holder ls row ≡ h = cc (g .1) in
       let counts = counting (not-false _ (d .0)) in
       record {

@@ -21,7 +21,7 @@ use Rattle.rules.specs.Bytes.{SameAt}
 use Rattle.rules.specs.Reading.{NotKeys, SameButKeys, SameTold}
 use Rattle.rules.proofs.Messages.{decode-type}
 use Rattle.rules.proofs.Same.{same-refl, same-part, same-all}
-use Rattle.rules.proofs.Alike.{Alike, check-same, plan-same, sends-same}
+use Rattle.rules.proofs.SamePlans.{Alike, check-same, plan-same, sends-same}
 
 -- ---- what stands in a record
 

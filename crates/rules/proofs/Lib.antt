@@ -4,7 +4,9 @@ pub mod Searches
 pub mod Records
 pub mod Same
 pub mod Allowances
+pub mod Exactly
 pub mod Connections
+pub mod TableLaws
 pub mod Fresh
 pub mod Rows
 pub mod Changes
@@ -24,7 +26,7 @@ pub mod Room
 pub mod Disconnects
 pub mod Metered
 pub mod Demand3
-pub mod Alike
+pub mod SamePlans
 pub mod Neighbours
 pub mod Keys
 pub mod Refusals

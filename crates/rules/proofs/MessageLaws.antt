@@ -137,7 +137,7 @@ module _
         let is-open = eq-eqb _ opened (open-permits (state cs c) (unfold encode in may)) in
         rw (outcome-of (EstablishRequest id) d, s)
         (record {
-          answer = rw (told-length _ _ _ (key 0 (lit≤ tt)) (key 16 (lit≤ tt)) (key 32 (lit≤ tt)) id, keys-length _ _ _ (key 0 (lit≤ tt)) (key 48 (lit≤ tt)) (key 64 (lit≤ tt)));
+          answer = rw (told-length _ _ _ (key _ (lit≤ tt)) (key _ (lit≤ tt)) (key _ (lit≤ tt)) id, keys-length _ _ _ (key _ (lit≤ tt)) (key _ (lit≤ tt)) (key _ (lit≤ tt)));
           reply = refl;
           relay = refl;
           paired = establish-pairs cs c hold random (ok .connections) (ok .known) long holding is-open;

@@ -17,7 +17,7 @@ use Rattle.rules.specs.Reading.{allowanceRecord, SameToRead, SameToCalle
 use Rattle.rules.proofs.Records.{field-same}
 use Rattle.rules.proofs.Same.{same-put, records-to-bytes, bytes-to-records}
 use Rattle.rules.proofs.Reading.{by-both}
-use Rattle.rules.proofs.Alike.{Alike, check-same, plan-same, sends-same}
+use Rattle.rules.proofs.SamePlans.{Alike, check-same, plan-same, sends-same}
 use Rattle.rules.proofs.Answers.{answer-is-check}
 use Rattle.rules.proofs.Metered.{clock-takes-time}
 

@@ -98,7 +98,7 @@ module _ (Q : ℕ → Type 0) where
 
     live-same : (now r : ℕ) → Q (ownerOf r) → live ls now r ≡ live ms now r
     unfolding live
-    live-same now r h = ap (ltb now) (expiry-same r h)
+    live-same now r h = rw (expiry-same r h)
 
     id-same : (r : ℕ) → Q (ownerOf r) → idOf ls r ≡ idOf ms r
     unfolding idOf

@@ -19,39 +19,11 @@ use Rattle.rules.specs.Charges.{cost, price, callerLevel}
 use Rattle.rules.specs.Checks.{wrongTime, wrongState, wrongLengths, notFromPeer, permitted, permits, notPermitted, noSession, aboveLevel, firstEight, checks, firstApplying, check, checkStart}
 use Rattle.rules.specs.Step.{step, start, started}
 use Rattle.rules.specs.Refusals.{Applies, RightSizes, InWrongState, OfWrongLengths, SentByPeer, NotSentByPeer, NotPermittedHere, WithoutSession, EachExactly, StartExactly}
+use Rattle.rules.proofs.Exactly.{eq-exactly, lt-exactly, le-exactly, not-exactly, and-exactly, or-exactly, false-exactly, never}
 use Rattle.rules.proofs.Connections.{session-with}
 use Rattle.rules.proofs.Checks.{none-applies, all-pass, first-applies, applied-first, at-most}
 use Rattle.rules.proofs.Answers.{answer-is-check}
 use Rattle.rules.proofs.Demand3.{start-number}
-
--- ---- tests, and the statements that they decide
-
-eq-exactly : (a b : ℕ) → (eqb a b ≡ true) ↔ (a ≡ b)
-eq-exactly a b = (eqb-true a b, eq-eqb a b)
-
-lt-exactly : (a b : ℕ) → (ltb a b ≡ true) ↔ (a < b)
-lt-exactly a b = (ltb-true a b, lt-ltb a b)
-
-le-exactly : (a b : ℕ) → (leb a b ≡ true) ↔ (a ≤ b)
-le-exactly a b = (leb-true a b, le-leb a b)
-
-not-exactly : {A : Type 0} (t : Bool) → (t ≡ true) ↔ A → (not t ≡ true) ↔ (A → ⊥)
-not-exactly true e = ((λ h x. false≢true h), (λ n. absurd (n (e .0 refl))))
-not-exactly false e = ((λ h x. false≢true (e .1 x)), (λ n. refl))
-
-and-exactly : {A B : Type 0} (t u : Bool) → (t ≡ true) ↔ A → (u ≡ true) ↔ B → (t && u ≡ true) ↔ (A × B)
-and-exactly t u e f = ((λ h. (e .0 (both-left t u h), f .0 (both-right t u h))), (λ q. rw (e .1 (q .0)) (f .1 (q .1))))
-
-or-exactly : {A B : Type 0} (t u : Bool) → (t ≡ true) ↔ A → (u ≡ true) ↔ B → (t || u ≡ true) ↔ (A ⊎ B)
-or-exactly true u e f = ((λ h. inl (e .0 refl)), (λ q. refl))
-or-exactly false u e f = ((λ h. inr (f .0 h)), ⊎-elim (λ x. absurd (false≢true (e .1 x))) (λ y. f .1 y))
-
-false-exactly : (t : Bool) → (not t ≡ true) ↔ (t ≡ false)
-false-exactly true = ((λ h. absurd (false≢true h)), (λ h. absurd (true≢false h)))
-false-exactly false = ((λ h. refl), (λ h. refl))
-
-never : (false ≡ true) ↔ ⊥
-never = (false≢true, (λ x. absurd x))
 
 -- ---- each check
 

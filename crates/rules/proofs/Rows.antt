@@ -81,7 +81,7 @@ module _ (ls ms : List ℕ) (r : ℕ) (e : leaseRecord ms r ≡ leaseRecord ls r
 
 live-same : (ls ms : List ℕ) (now r : ℕ) → expiry ms r ≡ expiry ls r → live ms now r ≡ live ls now r
 unfolding live
-live-same ls ms now r e = ap (ltb now) e
+live-same ls ms now r e = rw e
 
 -- the row that is written
 pub expiry-set : (ls : List ℕ) (r until : ℕ) → length ls ≡ leasesSize → r < rowCount → until < 256 ^ 8

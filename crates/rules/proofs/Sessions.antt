@@ -7,7 +7,7 @@ use mathlib.Core.List.{List, [], _++_}
 use native.Mathlib.Omega.{arith}
 use lib.Dec.{eqb, ltb, lit≤}
 use lib.ListN.{length}
-use Rattle.octets.specs.Octets.{part}
+use Rattle.octets.specs.Octets.{if_then_else_, part}
 use Rattle.octets.proofs.Parts.{length-part}
 use Rattle.svsc.specs.Messages.{keyBytes, encode}
 use Rattle.rules.specs.Sizes.{connectionCount, connectionsSize, randomBytes, nobody}
@@ -15,7 +15,7 @@ use Rattle.rules.specs.Searches.{endRow}
 use Rattle.rules.specs.Tables.{Tables, partnerOf, opened, isOpen, inSession, hasSession}
 use Rattle.rules.specs.Leases.{LeaseDecision, holdsLease, noSpareRow, cookieInUse, noFreeId, granted, decideLease, rowToExtend, release}
 use Rattle.rules.specs.Sessions.{EstablishDecision, refusedWith, establishedWith, decideEstablish, randomSessionId, callersPeerId, callersKey, holdersPeerId, holdersKey, join, establish, endSession, clear}
-use Rattle.rules.specs.Plans.{Plan, planOpen, planVersionAnswer, planLease, planExtension, planEstablish, planEnd, planData, planClose}
+use Rattle.rules.specs.Plans.{Plan, doNothing, planOpen, planVersionAnswer, planLease, planExtension, planEstablish, planEnd, planData, planClose}
 use Rattle.rules.specs.Reading.{connectionRecord}
 use Rattle.rules.specs.Bytes.{ChangedOnly}
 use Rattle.rules.specs.Effects.{InSessionBytes, Cleared}
@@ -44,11 +44,11 @@ module _
 
     callers-length : length CallersKeys ≡ keyBytes + keyBytes + keyBytes
     callers-length =
-        all-keys (randomSessionId random) (callersPeerId random) (callersKey random) (key 0 (lit≤ tt)) (key 16 (lit≤ tt)) (key 32 (lit≤ tt))
+        all-keys (randomSessionId random) (callersPeerId random) (callersKey random) (key _ (lit≤ tt)) (key _ (lit≤ tt)) (key _ (lit≤ tt))
 
     holders-length : length HoldersKeys ≡ keyBytes + keyBytes + keyBytes
     holders-length =
-        all-keys (randomSessionId random) (holdersPeerId random) (holdersKey random) (key 0 (lit≤ tt)) (key 48 (lit≤ tt)) (key 64 (lit≤ tt))
+        all-keys (randomSessionId random) (holdersPeerId random) (holdersKey random) (key _ (lit≤ tt)) (key _ (lit≤ tt)) (key _ (lit≤ tt))
 
     holder-joined : Joined cs (establish cs c h random) h c HoldersKeys
     unfolding establish
@@ -61,13 +61,13 @@ module _
     pub callers-record : ThreeKeys (establish cs c h random) c (randomSessionId random) (callersPeerId random) (callersKey random)
     callers-record =
         three-keys (randomSessionId random) (callersPeerId random) (callersKey random)
-        (key 0 (lit≤ tt)) (key 16 (lit≤ tt)) (key 32 (lit≤ tt))
+        (key _ (lit≤ tt)) (key _ (lit≤ tt)) (key _ (lit≤ tt))
         (establish cs c h random) c (caller-joined .keys-are)
 
     pub holders-record : ThreeKeys (establish cs c h random) h (randomSessionId random) (holdersPeerId random) (holdersKey random)
     holders-record =
         three-keys (randomSessionId random) (holdersPeerId random) (holdersKey random)
-        (key 0 (lit≤ tt)) (key 48 (lit≤ tt)) (key 64 (lit≤ tt))
+        (key _ (lit≤ tt)) (key _ (lit≤ tt)) (key _ (lit≤ tt))
         (establish cs c h random) h (holder-joined .keys-are)
 
     pub changed-establish : ChangedOnly (λ i. InSessionBytes c i ⊎ InSessionBytes h i) cs (establish cs c h random)
@@ -156,22 +156,18 @@ module _ (tables : Tables) (now c : ℕ) (size : length (tables .connections) �
   data-relays h bytes = record { empty = λ z. absurd (omega arith); to-paired = λ n. inl h }
 
   -- a close relays what the end of a session does
+  record Ends (x : Plan) : Type 0 where
+    empty : length (x .relay) ≡ 0 → x .destination ≡ nobody
+    before : x .destination ≢ nobody → inSession cs c (x .destination) ≡ true
+
   close-relays : Relays (planClose tables c)
   unfolding planClose planEnd encode hasSession
   close-relays =
-      by-test
-      (λ (x : Plan).
-      Relays (record {
-        reply = [];
-        relay = x .relay;
-        destination = x .destination;
-        disconnect = false;
-        connections = clear (x .connections) c;
-        leases = release ls c;
-      }))
-      (hasSession cs c)
-      (λ h. record { empty = λ z. absurd (omega arith); to-paired = λ n. inl h })
-      (λ h. silent _ _ _ _)
+      let ended : Ends (if hasSession cs c then planEnd tables c else doNothing tables) =
+      by-test Ends (hasSession cs c)
+      (λ h. record { empty = λ z. absurd (omega arith); before = λ n. h })
+      (λ h. record { empty = λ z. refl; before = λ n. absurd (n refl) }) in
+      record { empty = ended .empty; to-paired = λ n. inl (ended .before n) }
 
   pub each-relays : (n kind : ℕ) → Each Relays tables now c n kind
   unfolding planOpen
