@@ -1,5 +1,5 @@
 -- What an open and a close do where they are answered with 0: the whole answer, both buffers, and every byte of the tables. Assumes nothing.
-use Prim.Native.Nat.{ℕ, _+_, _≤_}
+use Prim.Native.Nat.{ℕ}
 use mathlib.Core.Path.{_≡_, refl, _∙_}
 use mathlib.Core.Logic.{inl, inr, ⊎-elim}
 use mathlib.Core.Bool.{true, false}
@@ -8,7 +8,7 @@ use native.Mathlib.Omega.{arith}
 use lib.ListN.{length}
 use Rattle.octets.specs.Octets.{if_then_else_, put}
 use Rattle.octets.proofs.Tests.{by-test as either-way}
-use Rattle.svsc.specs.Messages.{ProtocolVersion, digits, encode}
+use Rattle.svsc.specs.Messages.{digits, encode}
 use Rattle.rules.specs.Sizes.{rowsPerPartner, connectionsSize}
 use Rattle.rules.specs.Searches.{firstRow}
 use Rattle.rules.specs.Tables.{Tables, partnerOf, peer, inSession, hasSession}

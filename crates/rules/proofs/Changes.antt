@@ -1,7 +1,7 @@
 -- Which bytes each writing changes; the others are what they were. Assumes nothing.
-use Prim.Native.Nat.{ℕ, zero, suc, _+_, _*_, _≤_, _<_}
-use mathlib.Core.Path.{_≡_, refl, sym, ap, _∙_}
-use mathlib.Core.Logic.{_≢_, _⊎_, inl, inr}
+use Prim.Native.Nat.{ℕ, zero, suc, _+_, _≤_, _<_}
+use mathlib.Core.Path.{_≡_, refl, sym, _∙_}
+use mathlib.Core.Logic.{_⊎_, inl, inr}
 use mathlib.Core.Bool.{Bool, true, false}
 use mathlib.Core.List.{List, [], _∷_}
 use native.Mathlib.Omega.{arith}
@@ -9,7 +9,7 @@ use native.Mathlib.Decide.{ℕ-discrete}
 use lib.Dec.{eqb, lit≤}
 use lib.ListN.{length, replicate}
 use borrow.Author.Tests.{eqb-true, eq-eqb}
-use Rattle.octets.specs.Octets.{if_then_else_, byteAt, bigEndian, put}
+use Rattle.octets.specs.Octets.{if_then_else_, bigEndian, put}
 use Rattle.octets.proofs.Numbers.{length-bigEndian}
 use Rattle.octets.proofs.Stores.{length-put}
 use Rattle.svsc.specs.Messages.{cookieBytes}
@@ -17,7 +17,7 @@ use Rattle.rules.specs.Sizes.{rowCount, connectionBytes, leaseBytes, lea
 use Rattle.rules.specs.Tables.{connectionAt, peerAt, keysAt, keysBytes, leaseAt, idAt, holderAt, cookieAt, holder, setState, setPeer, setExpiry, setId, setHolder, freshConnection}
 use Rattle.rules.specs.Leases.{grant, releaseFrom}
 use Rattle.rules.specs.Sessions.{clear, await, join, leave, endSession}
-use Rattle.rules.specs.Bytes.{SameAt, ChangedOnly, InField}
+use Rattle.rules.specs.Bytes.{ChangedOnly, InField}
 use Rattle.rules.specs.Effects.{InConnection, InSessionBytes}
 use Rattle.rules.proofs.Records.{byte-beside, byte-put}
 use Rattle.rules.proofs.Rows.{by-holder}

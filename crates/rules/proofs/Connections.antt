@@ -18,7 +18,7 @@ use Rattle.rules.specs.Tables.{partnerOf, connectionAt, peerAt, keysAt, 
 use Rattle.rules.specs.Sessions.{clear, await, join, leave, endSession}
 use Rattle.rules.specs.Reading.{connectionRecord}
 use Rattle.rules.specs.Effects.{FreshBut, Cleared}
-use Rattle.rules.proofs.Records.{Kept, kept-trans, kept-put, length-part-most, part-part, byte-part, field-same, byte-same, byte-beside, byte-put, part-beside}
+use Rattle.rules.proofs.Records.{Kept, kept-trans, kept-put, length-part-most, part-part, byte-part, field-same, byte-same, byte-beside, byte-put}
 
 -- ---- the fields of a record, from its bytes
 

@@ -1,5 +1,5 @@
 -- What a decision says: a lease that is granted, an extension's row, a session that is established. Assumes nothing.
-use Prim.Native.Nat.{ℕ, _+_, _*_, _≤_, _<_}
+use Prim.Native.Nat.{ℕ, _≤_, _<_}
 use mathlib.Core.Path.{_≡_, refl, sym, ap, _∙_}
 use mathlib.Core.Logic.{_≢_}
 use mathlib.Core.Bool.{Bool, true, false, not, _&&_, true≢false}
@@ -8,10 +8,9 @@ use native.Mathlib.Nat.{mod-lt}
 use native.Mathlib.Omega.{arith}
 use lib.Dec.{eqb, ltb, lit<}
 use borrow.Author.Tests.{lt-ltb, le-ltb, ltb-true, eqb-true, eqb-false, not-true, not-false}
-use Rattle.octets.specs.Octets.{if_then_else_, numberAt, same}
+use Rattle.octets.specs.Octets.{if_then_else_, same}
 use Rattle.octets.proofs.Tests.{both-left, both-right}
-use Rattle.svsc.specs.Messages.{cookieBytes}
-use Rattle.rules.specs.Sizes.{rowsPerPartner, candidateCount, candidateBytes, idLimit}
+use Rattle.rules.specs.Sizes.{rowsPerPartner, candidateCount, idLimit}
 use Rattle.rules.specs.Searches.{firstFrom, firstRow, endRow, firstOwn}
 use Rattle.rules.specs.Tables.{partnerOf, ownerOf, isOpen, hasSession, live, liveWithId, holder, cookieOf, holderCounts}
 use Rattle.rules.specs.Leases.{LeaseDecision, holdsLease, noSpareRow, cookieInUse, noFreeId, granted, holdsRow, spareRow, cookieTaken, randomCookie, candidate, idTaken, firstFree, decideLease, rowToExtend}

@@ -9,8 +9,7 @@ use lib.ListN.{length, replicate}
 use borrow.Author.Tests.{eq-eqb, ne-eqb}
 use Rattle.octets.specs.Octets.{if_then_else_, byteAt, numberFrom, number, part, numberAt, bigEndian}
 use Rattle.rules.specs.Sizes.{partners, connectionCount, rowCount, leaseBytes, timeLimit}
-use Rattle.rules.specs.Tables.{allowanceAt, leaseAt, bucketOf, clock, records, freshConnection, freshLease, bucketBytes, fresh}
-use Rattle.rules.specs.Reading.{connectionRecord, leaseRecord}
+use Rattle.rules.specs.Tables.{allowanceAt, leaseAt, bucketOf, records, freshConnection, freshLease, bucketBytes, fresh}
 use Rattle.rules.specs.Effects.{FreshBut}
 use Rattle.rules.specs.Refusals.{RightSizes}
 use Rattle.rules.proofs.Records.{byte-part}

@@ -1,6 +1,6 @@
 -- What each message does where it is answered with 0: the whole answer, both buffers, and every byte of the tables. Assumes nothing.
 use Prim.Native.Nat.{ℕ, _+_, _^_, _≤_, _<_}
-use mathlib.Core.Path.{_≡_, refl, ap, _∙_}
+use mathlib.Core.Path.{_≡_, refl, _∙_}
 use mathlib.Core.Logic.{⊎-elim}
 use mathlib.Core.Bool.{true, false, _||_, true≢false}
 use mathlib.Core.Option.{some}
@@ -9,7 +9,7 @@ use native.Mathlib.Omega.{arith}
 use lib.Dec.{eqb, ltb, lit≤}
 use lib.ListN.{length, drop, length-append}
 use borrow.Author.Tests.{eq-eqb}
-use Rattle.octets.specs.Octets.{part, put, bigEndian}
+use Rattle.octets.specs.Octets.{part, put}
 use Rattle.octets.proofs.Tests.{by-test}
 use Rattle.octets.proofs.Numbers.{length-bigEndian}
 use Rattle.octets.proofs.Parts.{length-part}
@@ -18,7 +18,7 @@ use Rattle.rules.specs.Sizes.{connectionCount, rowCount, randomBytes}
 use Rattle.rules.specs.Searches.{endRow}
 use Rattle.rules.specs.Tables.{Tables, partnerOf, connectionAt, opened, state, peer, inSession, hasSession}
 use Rattle.rules.specs.Leases.{LeaseDecision, holdsLease, noSpareRow, cookieInUse, noFreeId, granted, decideLease, leaseEnd, rowToExtend}
-use Rattle.rules.specs.Sessions.{refusedWith, establishedWith, decideEstablish, establish}
+use Rattle.rules.specs.Sessions.{refusedWith, establishedWith, decideEstablish}
 use Rattle.rules.specs.Calls.{Call, message, Outcome}
 use Rattle.rules.specs.Plans.{replyOnly, relayOnly, planVersionAnswer, planLease, planExtension, planEstablish, planEnd, planData, planMessage, plan}
 use Rattle.rules.specs.Checks.{precheck}

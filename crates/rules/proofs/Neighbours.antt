@@ -1,7 +1,7 @@
 -- "Neighbours share two things only: ids already live, and the clock": a call that finds its partner's records, the live ids and the clock
 -- the same gives the same answer and buffers, and leaves its partner's records the same. Assumes nothing.
 use Prim.Native.Nat.{ℕ, zero, suc, _+_, _/_}
-use mathlib.Core.Path.{_≡_, refl, sym, ap, ap₂, _∙_, subst}
+use mathlib.Core.Path.{_≡_, refl, sym, ap, ap₂, _∙_}
 use mathlib.Core.List.{List}
 use native.Mathlib.Omega.{arith}
 use lib.Dec.{lit≤}

@@ -1,23 +1,21 @@
 -- Two tables that differ in some partners' records alone: what is read for the others is the same, and what is written for them stays so.
 -- Assumes nothing.
-use Prim.Native.Nat.{ℕ, zero, suc, _+_, _*_, _/_, _%_, _≤_, _<_}
-use mathlib.Core.Path.{_≡_, refl, sym, ap, ap₂, _∙_, subst}
+use Prim.Native.Nat.{ℕ, zero, suc, _+_, _/_, _≤_, _<_}
+use mathlib.Core.Path.{_≡_, refl, sym, ap, _∙_, subst}
 use mathlib.Core.Bool.{Bool, true, false, not, _&&_}
 use mathlib.Core.List.{List, [], _∷_}
 use native.Mathlib.Omega.{arith}
-use lib.Dec.{eqb, leb, ltb, lit≤}
-use lib.ListN.{length, replicate}
+use lib.Dec.{eqb, leb, ltb}
 use borrow.Author.Tests.{ltb-true, eqb-true, not-false}
-use Rattle.octets.specs.Octets.{if_then_else_, byteAt, bigEndian, part, numberAt, same}
+use Rattle.octets.specs.Octets.{if_then_else_}
 use Rattle.octets.proofs.Tests.{both-left}
-use Rattle.rules.specs.Sizes.{connectionsPerPartner, rowsPerPartner, candidateCount, connectionBytes, leaseBytes, nobody}
+use Rattle.rules.specs.Sizes.{rowsPerPartner, candidateCount, leaseBytes, nobody}
 use Rattle.rules.specs.Searches.{firstFrom, anyFrom, firstRow, endRow, firstOwn, anyOwn}
-use Rattle.rules.specs.Tables.{Tables, partnerOf, ownerOf, connectionAt, peerAt, keysAt, keysBytes, leaseAt, idAt, holderAt, cookieAt, opened, closed, awaiting, state, isOpen, peer, inSession, hasSession, expiry, idOf, holder, cookieOf, live, liveWithId, holderCounts, freshConnection}
-use Rattle.rules.specs.Leases.{LeaseDecision, holdsLease, noSpareRow, cookieInUse, noFreeId, granted, randomCookie, candidate, idTaken, firstFree, holdsRow, spareRow, cookieTaken, decideLease, grant, rowToExtend, releaseFrom}
-use Rattle.rules.specs.Sessions.{EstablishDecision, refusedWith, establishedWith, rowOfId, decideEstablish, clear, await, join, leave, endSession, establish}
+use Rattle.rules.specs.Tables.{partnerOf, ownerOf, connectionAt, peerAt, keysAt, leaseAt, idAt, holderAt, cookieAt, opened, closed, state, peer, inSession, hasSession, expiry, idOf, holder, cookieOf, live, liveWithId, holderCounts}
+use Rattle.rules.specs.Leases.{randomCookie, candidate, idTaken, firstFree, holdsRow, spareRow, cookieTaken, decideLease, rowToExtend, releaseFrom}
+use Rattle.rules.specs.Sessions.{rowOfId, decideEstablish}
 use Rattle.rules.specs.Bytes.{SameAt}
 use Rattle.rules.proofs.Searches.{first-turn, any-turn}
-use Rattle.rules.proofs.Records.{byte-same}
 use Rattle.rules.proofs.Same.{same-part, same-number, same-put}
 use Rattle.rules.proofs.Decisions.{own-row}
 

@@ -1,19 +1,19 @@
 -- Each check applies exactly if its sentence holds, and the answer's number is that of the first which applies. Assumes nothing.
-use Prim.Native.Nat.{ℕ, zero, suc, _+_, _-_, _≤_, _<_, max}
-use mathlib.Core.Path.{_≡_, refl, sym, ap, _∙_}
-use mathlib.Core.Logic.{_≢_, _⊎_, inl, inr, ⊎-elim, _↔_}
-use mathlib.Core.Bool.{Bool, true, false, not, _&&_, _||_, true≢false, false≢true}
+use Prim.Native.Nat.{ℕ, zero, suc, _-_, _≤_, _<_, max}
+use mathlib.Core.Path.{_≡_, refl, sym, _∙_}
+use mathlib.Core.Logic.{⊎-elim, _↔_}
+use mathlib.Core.Bool.{Bool, true, false, not, true≢false, false≢true}
 use mathlib.Core.Option.{Option, none, some}
 use mathlib.Core.List.{List, [], _∷_, map}
 use native.Mathlib.Omega.{arith}
 use native.Mathlib.Decide.{decLe}
-use lib.Dec.{eqb, leb, ltb}
+use lib.Dec.{leb}
 use lib.ListN.{length, getD}
-use borrow.Author.Tests.{ltb-true, lt-ltb, leb-true, le-leb, eqb-true, eq-eqb, not-true, not-false}
-use Rattle.octets.proofs.Tests.{both-left, both-right, by-test}
+use borrow.Author.Tests.{not-true}
+use Rattle.octets.proofs.Tests.{by-test}
 use Rattle.svsc.specs.Messages.{Message, sentByPeers, typeOf, isSome, decode, fromPeer, typesIn}
 use Rattle.rules.specs.Sizes.{connectionCount, connectionsSize, leasesSize, allowancesSize, timeLimit, randomBytes, leastBuffer}
-use Rattle.rules.specs.Tables.{Tables, closed, awaiting, opened, state, inSession, hasSession, clock, sized}
+use Rattle.rules.specs.Tables.{Tables, closed, state, inSession, hasSession, clock, sized}
 use Rattle.rules.specs.Calls.{Call, opening, message, closing, timeOf, connectionOf, Answer}
 use Rattle.rules.specs.Charges.{cost, price, callerLevel}
 use Rattle.rules.specs.Checks.{wrongTime, wrongState, wrongLengths, notFromPeer, permitted, permits, notPermitted, noSession, aboveLevel, firstEight, checks, firstApplying, check, checkStart}

@@ -9,7 +9,7 @@ use native.Mathlib.Omega.{arith}
 use native.Mathlib.Decide.{ℕ-discrete}
 use lib.Dec.{eqb, ltb, lit≤}
 use lib.ListN.{length}
-use borrow.Author.Tests.{eq-eqb, eqb-false, ltb-true, lt-ltb}
+use borrow.Author.Tests.{eq-eqb, ltb-true, lt-ltb}
 use Rattle.octets.specs.Octets.{if_then_else_, bigEndian, numberFrom, number, part, numberAt}
 use Rattle.octets.proofs.Numbers.{length-bigEndian}
 use Rattle.octets.proofs.Stores.{length-put, part-put, numberAt-put, numberAt-before}
@@ -22,7 +22,7 @@ use Rattle.rules.specs.Reading.{leaseRecord}
 use Rattle.rules.specs.Effects.{LeaseRow}
 use Rattle.rules.specs.Laws.{DistinctIds}
 use Rattle.rules.proofs.Searches.{none-passes}
-use Rattle.rules.proofs.Records.{Kept, kept-same, kept-trans, kept-put, field-same, byte-same, number-beside, byte-beside, byte-put}
+use Rattle.rules.proofs.Records.{Kept, kept-same, kept-trans, kept-put, field-same, number-beside, byte-beside, byte-put}
 use Rattle.rules.proofs.Allowances.{part-records}
 
 -- ---- the rows that are left

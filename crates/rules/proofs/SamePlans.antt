@@ -1,7 +1,7 @@
 -- Two tables that a call finds alike: it gets the same answer and sends the same from both, and what it leaves is alike again.
 -- Assumes nothing.
-use Prim.Native.Nat.{ℕ, zero, suc, _≤_, _<_}
-use mathlib.Core.Path.{_≡_, refl, sym, ap, _∙_, subst}
+use Prim.Native.Nat.{ℕ, _≤_, _<_}
+use mathlib.Core.Path.{_≡_, refl, ap, subst}
 use mathlib.Core.Bool.{Bool}
 use mathlib.Core.Option.{Option, none, some}
 use mathlib.Core.List.{List}
@@ -14,11 +14,11 @@ use Rattle.rules.specs.Searches.{firstRow, endRow}
 use Rattle.rules.specs.Tables.{Tables, partnerOf, ownerOf, connectionAt, keysAt, bucketOf, clock, sized, hasSession}
 use Rattle.rules.specs.Leases.{LeaseDecision, holdsLease, noSpareRow, cookieInUse, noFreeId, granted, firstFree, idTaken, decideLease, leaseEnd, grant, rowToExtend, release}
 use Rattle.rules.specs.Sessions.{EstablishDecision, refusedWith, establishedWith, decideEstablish, clear, await, join, leave, endSession, establish}
-use Rattle.rules.specs.Calls.{Call, opening, message, closing, timeOf, callerOf, Outcome}
+use Rattle.rules.specs.Calls.{Call, opening, message, closing, timeOf, callerOf}
 use Rattle.rules.specs.Plans.{Plan, doNothing, planOpen, planVersionAnswer, planLease, planExtension, planEstablish, planEnd, planData, planClose, planMessage, plan}
 use Rattle.rules.specs.Charges.{price, callerLevel}
 use Rattle.rules.specs.Checks.{wrongTime, wrongState, notPermitted, noSession, aboveLevel, firstEight, checks, firstApplying, check}
-use Rattle.rules.specs.Step.{outcome, done, step}
+use Rattle.rules.specs.Step.{done}
 use Rattle.rules.specs.Bytes.{SameAt}
 use Rattle.rules.specs.Reading.{SameSizes, SameTold}
 use Rattle.rules.proofs.Same.{same-put}

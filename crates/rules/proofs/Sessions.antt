@@ -2,7 +2,7 @@
 use Prim.Native.Nat.{ℕ, _+_, _≤_, _<_}
 use mathlib.Core.Path.{_≡_, refl, sym, ap, _∙_}
 use mathlib.Core.Logic.{_≢_, _⊎_, inl, inr}
-use mathlib.Core.Bool.{Bool, true, false}
+use mathlib.Core.Bool.{Bool, true}
 use mathlib.Core.List.{List, [], _++_}
 use native.Mathlib.Omega.{arith}
 use lib.Dec.{eqb, ltb, lit≤}
@@ -13,7 +13,7 @@ use Rattle.svsc.specs.Messages.{keyBytes, encode}
 use Rattle.rules.specs.Sizes.{connectionCount, connectionsSize, randomBytes, nobody}
 use Rattle.rules.specs.Searches.{endRow}
 use Rattle.rules.specs.Tables.{Tables, partnerOf, opened, isOpen, inSession, hasSession}
-use Rattle.rules.specs.Leases.{LeaseDecision, holdsLease, noSpareRow, cookieInUse, noFreeId, granted, decideLease, rowToExtend, release}
+use Rattle.rules.specs.Leases.{LeaseDecision, holdsLease, noSpareRow, cookieInUse, noFreeId, granted, decideLease, rowToExtend}
 use Rattle.rules.specs.Sessions.{EstablishDecision, refusedWith, establishedWith, decideEstablish, randomSessionId, callersPeerId, callersKey, holdersPeerId, holdersKey, join, establish, endSession, clear}
 use Rattle.rules.specs.Plans.{Plan, doNothing, planOpen, planVersionAnswer, planLease, planExtension, planEstablish, planEnd, planData, planClose}
 use Rattle.rules.specs.Reading.{connectionRecord}

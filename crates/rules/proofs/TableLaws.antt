@@ -6,7 +6,7 @@ use mathlib.Core.Bool.{true}
 use mathlib.Core.List.{List}
 use borrow.Author.Tests.{le-leb, lt-leb}
 use Rattle.octets.specs.Octets.{byteAt}
-use Rattle.rules.specs.Tables.{partnerOf, ownerOf, connectionAt, state, isOpen, inSession, expiry, live, holder, holderCounts}
+use Rattle.rules.specs.Tables.{partnerOf, ownerOf, connectionAt, state, inSession, expiry, live, holder, holderCounts}
 use Rattle.rules.proofs.Exactly.{eq-exactly, lt-exactly, and-exactly}
 use Rattle.rules.proofs.Connections.{Paired, paired, in-session}
 

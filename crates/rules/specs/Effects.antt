@@ -11,7 +11,7 @@ use Rattle.octets.specs.Octets.{if_then_else_, byteAt, part, numberAt, put}
 use Rattle.svsc.specs.Messages.{Established, EstablishNotification, encode}
 use Rattle.rules.specs.Sizes.{rowCount, connectionBytes, leaseBytes}
 use Rattle.rules.specs.Searches.{endRow}
-use Rattle.rules.specs.Tables.{Tables, partnerOf, ownerOf, connectionAt, holderAt, leaseAt, peer, inSession, hasSession, holderCounts, sessionIdOf, peerIdOf, peerKeyOf, live, expiry, idOf, holder, cookieOf}
+use Rattle.rules.specs.Tables.{Tables, partnerOf, ownerOf, connectionAt, holderAt, inSession, hasSession, holderCounts, sessionIdOf, peerIdOf, peerKeyOf, live, expiry, idOf, holder, cookieOf}
 use Rattle.rules.specs.Leases.{LeaseDecision, holdsLease, noSpareRow, cookieInUse, noFreeId, granted}
 use Rattle.rules.specs.Sessions.{EstablishDecision, refusedWith, establishedWith}
 use Rattle.rules.specs.Calls.{Call, replyBuffer, relayBuffer, Outcome}
