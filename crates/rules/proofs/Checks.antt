@@ -12,10 +12,10 @@ use Rattle.octets.proofs.Tests.{both-left, both-right}
 use Rattle.svsc.specs.Messages.{typeOf, fromPeer}
 use Rattle.allowance.specs.Meter.{verdict}
 use Rattle.rules.specs.Sizes.{partners, connectionCount, connectionsSize, leasesSize, allowancesSize, timeLimit, randomBytes, leastBuffer}
-use Rattle.rules.specs.Tables.{Tables, opened, state, isClosed, hasSession, clock, sized}
+use Rattle.rules.specs.Tables.{Tables, opened, state, hasSession, clock, sized}
 use Rattle.rules.specs.Calls.{Call, opening, message, closing, timeOf, connectionOf, callerOf}
 use Rattle.rules.specs.Charges.{charged, cost, price, callerLevel}
-use Rattle.rules.specs.Checks.{wrongTime, wrongState, wrongLengths, notFromPeer, permits, notPermitted, noSession, aboveLevel, firstEight, checks, firstApplying, precheck, check}
+use Rattle.rules.specs.Checks.{wrongTime, wrongLengths, notFromPeer, permits, notPermitted, noSession, aboveLevel, firstEight, checks, firstApplying, precheck, check}
 
 -- ---- the first that applies
 
@@ -154,17 +154,6 @@ no-check-of : (tables : Tables) (call : Call) → precheck tables call ≡ 0 →
 unfolding precheck
 no-check-of tables call h = none-applies 0 (firstEight tables call) h
 
--- and of each kind of call besides
-pub opens-closed : (tables : Tables) (now c : ℕ) (reply : List ℕ) → precheck tables (opening now c reply) ≡ 0
-    → isClosed (tables .connections) c ≡ true
-unfolding firstEight wrongState
-opens-closed tables now c reply h = not-false (isClosed (tables .connections) c) (no-check-of tables (opening now c reply) h 3)
-
-pub closes-not-closed : (tables : Tables) (now c : ℕ) (relay : List ℕ) → precheck tables (closing now c relay) ≡ 0
-    → isClosed (tables .connections) c ≡ false
-unfolding firstEight wrongState
-closes-not-closed tables now c relay h = no-check-of tables (closing now c relay) h 3
-
 pub open-room : (tables : Tables) (now c : ℕ) (reply : List ℕ) → precheck tables (opening now c reply) ≡ 0 → leastBuffer ≤ length reply
 unfolding firstEight wrongLengths
 open-room tables now c reply h = ltb-false (length reply) leastBuffer (no-check-of tables (opening now c reply) h 4)
@@ -176,10 +165,6 @@ close-room tables now c relay h = ltb-false (length relay) leastBuffer (no-check
 module _ (tables : Tables) (now c : ℕ) (m random reply relay : List ℕ) (h : precheck tables (message now c m random reply relay) ≡ 0) where
   no-check : (i : ℕ) → getD (firstEight tables (message now c m random reply relay)) i false ≡ false
   no-check = no-check-of tables (message now c m random reply relay) h
-
-  pub not-closed : isClosed (tables .connections) c ≡ false
-  unfolding firstEight wrongState
-  not-closed = no-check 3
 
   pub from-peer : fromPeer m ≡ true
   unfolding firstEight notFromPeer

@@ -8,7 +8,7 @@ use native.Mathlib.Omega.{arith}
 use lib.Dec.{eqb, leb, lit≤}
 use lib.ListN.{length, replicate, length-append, getD-replicate}
 use lib.Seq.{take-at, drop-at, take-all, drop-drop}
-use borrow.Author.Tests.{le-leb, eq-eqb, ne-eqb, eqb-true, eqb-false, not-true}
+use borrow.Author.Tests.{eq-eqb, ne-eqb, eqb-true, eqb-false, not-true}
 use Rattle.octets.specs.Octets.{if_then_else_, byteAt, part}
 use Rattle.octets.proofs.Tests.{both-left, both-right}
 use Rattle.octets.proofs.Stores.{length-put, part-put}
@@ -74,20 +74,6 @@ module _ (cs : List ℕ) (c : ℕ) (size : length cs ≡ connectionsSize) (c< : 
   pub cleared-record : connectionRecord (clear cs c) c ≡ freshConnection
   unfolding clear
   cleared-record = part-put cs (connectionAt c) freshConnection (omega arith)
-
-  pub clear-clears : Cleared (clear cs c) c
-  unfolding part
-  clear-clears = record {
-    peer-none =
-        sym (byte-part (clear cs c) (connectionAt c) connectionBytes 1 (lit≤ tt)) ∙ ap (λ (l : List ℕ). byteAt l 1) cleared-record;
-    keys-zero =
-        sym (part-part (clear cs c) (connectionAt c) connectionBytes 16 keysBytes (lit≤ tt))
-        ∙ ap (λ (l : List ℕ). part l 16 keysBytes) cleared-record;
-  }
-
-  pub state-set : (s : ℕ) → s ≤ opened → state (setState cs c s) c ≡ s
-  unfolding state
-  state-set s h = rw (byte-put cs (connectionAt c) s (omega arith), le-leb s opened h)
 
 -- the bytes of a fresh record, one by one, and of a record that is fresh but for its state
 fresh-byte : (i : ℕ) → i < connectionBytes → byteAt freshConnection i ≡ (if eqb i 0 then 0 else if eqb i 1 then 255 else 0)

@@ -1,4 +1,5 @@
--- The laws of the rules. For readers: Laws, MessageLaws, Leases, Charges, Room, Disconnects, Demand3. The others serve these.
+-- The laws of the rules. For readers: Sizes, Fresh, TableLaws; Refusals; CallLaws, MessageLaws, Leases, Room, Disconnects; Keys, Neighbours,
+-- Laws; Charges, Demand3. The others serve these.
 pub mod Sizes
 pub mod Searches
 pub mod Records

@@ -16,9 +16,6 @@ module _ {P : ℕ → Type 0} where
   pub same-refl : (xs : List ℕ) → SameAt P xs xs
   same-refl xs = record { long = refl; at = λ i h. refl }
 
-  pub same-sym : {xs ys : List ℕ} → SameAt P xs ys → SameAt P ys xs
-  same-sym s = record { long = sym (s .long); at = λ i h. sym (s .at i h) }
-
   pub same-trans : {xs ys zs : List ℕ} → SameAt P xs ys → SameAt P ys zs → SameAt P xs zs
   same-trans s t = record { long = s .long ∙ t .long; at = λ i h. s .at i h ∙ t .at i h }
 
