@@ -1,7 +1,8 @@
 /* The messages of the ScreenView server protocol (SVSC): a reader and a writer for each form.
  *
- * Link libsvsc_reader.a for the reader and libsvsc_writers.a for the writers, which `rt staticlib svsc_reader` and
- * `rt staticlib svsc_writers` write. Each function is total: any bytes and any numbers get an answer.
+ * Link libsvsc_reader.a for the reader, and for the writers libsvsc_connection_writers.a (types 0, 1 and 13),
+ * libsvsc_lease_writers.a (2 to 5) and libsvsc_session_writers.a (6 to 12): `rt staticlib NAME` writes libNAME.a.
+ * Each function is total: any bytes and any numbers get an answer.
  * Numbers in messages are most significant byte first. Buffers must not overlap.
  */
 #ifndef SVSC_H

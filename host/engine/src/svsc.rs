@@ -2,8 +2,13 @@
 
 use std::mem::{offset_of, size_of};
 
-/// The archive of these functions, for a C program to link too.
-pub const ARCHIVES: [&str; 2] = [env!("CRONDELITH_LINKED_SVSC_READER"), env!("CRONDELITH_LINKED_SVSC_WRITERS")];
+/// The archives of these functions, for a C program to link too.
+pub const ARCHIVES: [&str; 4] = [
+    env!("CRONDELITH_LINKED_SVSC_READER"),
+    env!("CRONDELITH_LINKED_SVSC_CONNECTION_WRITERS"),
+    env!("CRONDELITH_LINKED_SVSC_LEASE_WRITERS"),
+    env!("CRONDELITH_LINKED_SVSC_SESSION_WRITERS"),
+];
 
 pub const DONE: u32 = 0;
 /// The buffer is too short.
