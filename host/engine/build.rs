@@ -6,7 +6,7 @@ use std::path::{Path, PathBuf};
 
 const FOLDER_VARIABLE: &str = "CRONDELITH_LIB";
 const ARCHIVES: [&str; 5] =
-    ["svsc_reader", "svsc_connection_writers", "svsc_lease_writers", "svsc_session_writers", "relay"];
+    ["svsc_boundary", "svsc_version_writers", "svsc_lease_writers", "svsc_session_writers", "relay"];
 
 fn main() {
     println!("cargo::rerun-if-env-changed={FOLDER_VARIABLE}");

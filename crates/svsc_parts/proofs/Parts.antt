@@ -12,6 +12,10 @@ use Rattle.octets.specs.Octets.{put}
 use Rattle.octets.proofs.Tests.{le-or-lt}
 use Rattle.octets.proofs.Stores.{put-append, length-put}
 
+-- a store keeps the length, wherever it is
+pub kept : (before after stored : List ℕ) (at : ℕ) → after ≡ put before at stored → length after ≡ length before
+kept before after stored at e = rw (e, length-put)
+
 -- a type and four parts
 module _ (buffer : List ℕ) (k : ℕ) (a b c d : List ℕ) where
   -- copied one behind the other
@@ -23,9 +27,6 @@ module _ (buffer : List ℕ) (k : ℕ) (a b c d : List ℕ) where
       ∙ put-append (put (put buffer 0 (k ∷ [])) 1 a) (1 + length a) b (c ++ d)
       ∙ put-append (put buffer 0 (k ∷ [])) 1 a (b ++ (c ++ d))
       ∙ put-append buffer 0 (k ∷ []) (a ++ (b ++ (c ++ d))))
-
-  pub placed-length : (b₄ : List ℕ) → b₄ ≡ put buffer 0 (k ∷ (a ++ (b ++ (c ++ d)))) → length b₄ ≡ length buffer
-  placed-length b₄ e = rw (e, length-put)
 
   pub whole : length (k ∷ (a ++ (b ++ (c ++ d)))) ≡ 1 + length a + length b + length c + length d
   whole = simp length-append (omega arith)

@@ -1,9 +1,9 @@
-// The writers of types 6 to 12, sessions from the request for one to its end: a function for each form, exported to C.
+// The writers of types 6 to 13, sessions and the keepalive: a function for each form, exported to C.
 ghost use mathlib.Core.Path.{_≡_};
 ghost use mathlib.Core.List.{[], _∷_, _++_};
 ghost use Rattle.octets.specs.Octets.{bigEndian};
 ghost use Rattle.svsc.specs.Messages.{EstablishRequest, EstablishRefused, Established, EstablishNotification, SessionEnd};
-ghost use Rattle.svsc.specs.Messages.{SessionEndNotification, DataSend, DataReceive};
+ghost use Rattle.svsc.specs.Messages.{SessionEndNotification, DataSend, DataReceive, Keepalive};
 ghost use Rattle.svsc.specs.Writing.{write, written};
 use svsc::Written;
 use svsc_parts::put_part;
@@ -93,4 +93,11 @@ pub extern "C" fn svsc_write_data_receive(buffer: &mut [u8], bytes: &[u8]) -> Wr
     ensures { λ r. ⌜ written r (now (buffer .exit)) ≡ write (DataReceive (now (bytes .entry))) (now (buffer .entry)) ⌝ }
 {
     put_part(buffer, octets::short(bytes, svsc::LONGEST), 12, bytes)
+}
+
+#[no_mangle]
+pub extern "C" fn svsc_write_keepalive(buffer: &mut [u8]) -> Written
+    ensures { λ r. ⌜ written r (now (buffer .exit)) ≡ write Keepalive (now (buffer .entry)) ⌝ }
+{
+    put_part(buffer, true, 13, b"")
 }

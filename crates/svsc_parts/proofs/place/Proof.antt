@@ -1,7 +1,7 @@
 -- `place`: the type and the four parts, one behind the other.
-use mathlib.Core.Path.{refl}
+use mathlib.Core.Path.{refl, _∙_}
 use borrow.Author.Needs.{needs}
-use Rattle.svsc_parts.proofs.Parts.{placed, placed-length}
+use Rattle.svsc_parts.proofs.Parts.{placed, kept}
 use Rattle.svsc_parts.proofs.place.Statement.{statement}
 use Rattle.svsc_parts.proofs.place.Tie as tie
 
@@ -34,9 +34,11 @@ copy-requires-4 c κs = search needs
 
 same-length : tie.Need-same-length
 same-length c =
-    let a = c .before .before .before .before .before .before .before .before .before .before .before .before .before .before .before .before .before .before .before .before .before .before .before .before .before .args in
-    placed-length (a .buffer .now) (a .kind) (a .a .now) (a .b .now) (a .c .now) (a .d .now) _
-    (placed (a .buffer .now) (a .kind) (a .a .now) (a .b .now) (a .c .now) (a .d .now) _ _ _ _ _ (c .before .before .before .before .before .before .before .before .before .before .before .before .before .before .before .before .before .before .write8 .ensures) (c .before .before .before .before .before .before .before .before .before .before .before .before .before .before .copy .ensures) (c .before .before .before .before .before .before .before .before .before .before .copy2 .ensures) (c .before .before .before .before .before .before .copy3 .ensures) (c .before .before .copy4 .ensures))
+    kept _ _ _ _ (c .before .before .copy4 .ensures)
+    ∙ kept _ _ _ _ (c .before .before .before .before .before .before .copy3 .ensures)
+    ∙ kept _ _ _ _ (c .before .before .before .before .before .before .before .before .before .before .copy2 .ensures)
+    ∙ kept _ _ _ _ (c .before .before .before .before .before .before .before .before .before .before .before .before .before .before .copy .ensures)
+    ∙ kept _ _ _ _ (c .before .before .before .before .before .before .before .before .before .before .before .before .before .before .before .before .before .before .write8 .ensures)
 
 returns : tie.Need-returns
 returns c =
