@@ -43,9 +43,9 @@ fn is_version(m: &[u8]) -> bool
     requires { ⌜ length (now m) ≡ 13 ⌝ }
     ensures { λ r. ⌜ r ≡ isVersion (now (m .entry)) ⌝ }
 {
-    octets::equal_at(m, 1, &svsc::VERSION_NAME)
+    octet_comparisons::equal_at(m, 1, &svsc::VERSION_NAME)
         & are_digits(m, 6)
-        & octets::equal_at(m, 9, &svsc::VERSION_POINT)
+        & octet_comparisons::equal_at(m, 9, &svsc::VERSION_POINT)
         & are_digits(m, 10)
 }
 

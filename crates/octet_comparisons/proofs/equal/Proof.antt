@@ -4,10 +4,10 @@ use Prim.Native.Nat.{ℕ, _-_, _≤_}
 use native.Mathlib.Omega.{arith}
 use borrow.Author.Needs.{needs}
 use lib.ListN.{length, drop}
 use Rattle.octets.specs.Octets.{same}
 use Rattle.octets.proofs.Equality.{same-length, same-agrees, same-differs, same-all}
-use Rattle.octets.proofs.equal.Statement.{statement}
-use Rattle.octets.proofs.equal.Tie as tie
+use Rattle.octet_comparisons.proofs.equal.Statement.{statement}
+use Rattle.octet_comparisons.proofs.equal.Tie as tie
 
 abbrev Inv-loop : tie.InvT-loop
 Inv-loop a b i₀ i-end i = (i ≤ length a) × (same a b ≡ same (drop i a) (drop i b))

@@ -1,7 +1,7 @@
 -- `equal_at`: a part compared.
 use borrow.Author.Needs.{needs}
-use Rattle.octets.proofs.equal_at.Statement.{statement}
-use Rattle.octets.proofs.equal_at.Tie as tie
+use Rattle.octet_comparisons.proofs.equal_at.Statement.{statement}
+use Rattle.octet_comparisons.proofs.equal_at.Tie as tie
 
 part-requires : tie.Need-part-requires
 part-requires c κs = search needs

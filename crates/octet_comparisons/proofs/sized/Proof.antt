@@ -1,10 +1,10 @@
 -- `sized`: of bytes, the length is the only question.
 use mathlib.Core.Path.{sym, _∙_}
 use native.Mathlib.Omega.{arith}
 use Rattle.octets.proofs.Tests.{sized-is}
 use borrow.Author.Needs.{needs}
-use Rattle.octets.proofs.sized.Statement.{statement}
-use Rattle.octets.proofs.sized.Tie as tie
+use Rattle.octet_comparisons.proofs.sized.Statement.{statement}
+use Rattle.octet_comparisons.proofs.sized.Tie as tie
 
 is-requires : tie.Need-is-requires
 is-requires c κs = search needs

@@ -1,10 +1,10 @@
 -- `short`: of bytes, the length is the only question.
 use mathlib.Core.Path.{sym, _∙_}
 use native.Mathlib.Omega.{arith}
 use Rattle.octets.proofs.Tests.{short-is}
 use borrow.Author.Needs.{needs}
-use Rattle.octets.proofs.short.Statement.{statement}
-use Rattle.octets.proofs.short.Tie as tie
+use Rattle.octet_comparisons.proofs.short.Statement.{statement}
+use Rattle.octet_comparisons.proofs.short.Tie as tie
 
 less-requires : tie.Need-less-requires
 less-requires c κs = search needs
