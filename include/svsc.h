@@ -49,8 +49,8 @@ typedef struct {
     uint64_t expiration;
 } svsc_message;
 
-/* What a writer or svsc_field did: `length` bytes written from the buffer's start, its further bytes as they were. On SVSC_MALFORMED
- * and SVSC_SHORT, in this order, the length is 0 and no byte of the buffer has changed. */
+/* What a writer or svsc_field did: `length` bytes written from the buffer's start, its further bytes as they were. On
+ * SVSC_MALFORMED and SVSC_SHORT, in this order, the length is 0 and no byte of the buffer has changed. */
 typedef struct {
     uint32_t number;
     size_t length;
