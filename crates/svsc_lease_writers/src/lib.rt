@@ -3,6 +3,7 @@ ghost use mathlib.Core.Path.{_≡_};
 ghost use Rattle.svsc.specs.Messages.{LeaseRequest, LeaseRequestWithCookie, LeaseRefused, LeaseGranted, ExtensionRequest};
 ghost use Rattle.svsc.specs.Messages.{ExtensionRefused, ExtensionGranted};
 ghost use Rattle.svsc.specs.Writing.{write, written};
+use octet_comparisons::sized;
 use svsc::Written;
 use svsc_parts::put_part;
 use svsc_parts::put_parts;
@@ -18,7 +19,7 @@ pub extern "C" fn svsc_write_lease_request(buffer: &mut [u8]) -> Written
 pub extern "C" fn svsc_write_lease_request_with_cookie(buffer: &mut [u8], cookie: &[u8]) -> Written
     ensures { λ r. ⌜ written r (now (buffer .exit)) ≡ write (LeaseRequestWithCookie (now (cookie .entry))) (now (buffer .entry)) ⌝ }
 {
-    let fits = octet_comparisons::sized(cookie, svsc::COOKIE);
+    let fits = sized(cookie, svsc::COOKIE);
     put_parts(buffer, fits, 2, &[1], cookie, b"", b"")
 }
 
@@ -38,7 +39,7 @@ pub extern "C" fn svsc_write_lease_granted(
 ) -> Written
     ensures { λ r. ⌜ written r (now (buffer .exit)) ≡ write (LeaseGranted id (now (cookie .entry)) expiration) (now (buffer .entry)) ⌝ }
 {
-    let fits = octet_comparisons::sized(cookie, svsc::COOKIE);
+    let fits = sized(cookie, svsc::COOKIE);
     let name = octets::bytes32(id);
     let until = octets::bytes64(expiration);
     put_parts(buffer, fits, 3, &[1], &name, cookie, &until)
@@ -48,12 +49,7 @@ pub extern "C" fn svsc_write_lease_granted(
 pub extern "C" fn svsc_write_extension_request(buffer: &mut [u8], cookie: &[u8]) -> Written
     ensures { λ r. ⌜ written r (now (buffer .exit)) ≡ write (ExtensionRequest (now (cookie .entry))) (now (buffer .entry)) ⌝ }
 {
-    put_part(
-        buffer,
-        octet_comparisons::sized(cookie, svsc::COOKIE),
-        4,
-        cookie,
-    )
+    put_part(buffer, sized(cookie, svsc::COOKIE), 4, cookie)
 }
 
 #[no_mangle]

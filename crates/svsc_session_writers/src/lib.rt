@@ -5,6 +5,8 @@ ghost use Rattle.octets.specs.Octets.{bigEndian};
 ghost use Rattle.svsc.specs.Messages.{EstablishRequest, EstablishRefused, Established, EstablishNotification, SessionEnd};
 ghost use Rattle.svsc.specs.Messages.{SessionEndNotification, DataSend, DataReceive, Keepalive};
 ghost use Rattle.svsc.specs.Writing.{write, written};
+use octet_comparisons::short;
+use octet_comparisons::sized;
 use svsc::Written;
 use svsc_parts::put_part;
 use svsc_parts::put_parts;
@@ -44,9 +46,7 @@ pub extern "C" fn svsc_write_established(
     ensures { λ r. ⌜ written r (now (buffer .exit))
         ≡ write (Established id (now (session .entry)) (now (peer .entry)) (now (key .entry))) (now (buffer .entry)) ⌝ }
 {
-    let fits = octet_comparisons::sized(session, svsc::KEY)
-        & octet_comparisons::sized(peer, svsc::KEY)
-        & octet_comparisons::sized(key, svsc::KEY);
+    let fits = sized(session, svsc::KEY) & sized(peer, svsc::KEY) & sized(key, svsc::KEY);
     let head = outcome(id, 0);
     put_parts(buffer, fits, 7, &head, session, peer, key)
 }
@@ -61,9 +61,7 @@ pub extern "C" fn svsc_write_establish_notification(
     ensures { λ r. ⌜ written r (now (buffer .exit))
         ≡ write (EstablishNotification (now (session .entry)) (now (peer .entry)) (now (key .entry))) (now (buffer .entry)) ⌝ }
 {
-    let fits = octet_comparisons::sized(session, svsc::KEY)
-        & octet_comparisons::sized(peer, svsc::KEY)
-        & octet_comparisons::sized(key, svsc::KEY);
+    let fits = sized(session, svsc::KEY) & sized(peer, svsc::KEY) & sized(key, svsc::KEY);
     put_parts(buffer, fits, 8, session, peer, key, b"")
 }
 
@@ -85,24 +83,14 @@ pub extern "C" fn svsc_write_session_end_notification(buffer: &mut [u8]) -> Writ
 pub extern "C" fn svsc_write_data_send(buffer: &mut [u8], bytes: &[u8]) -> Written
     ensures { λ r. ⌜ written r (now (buffer .exit)) ≡ write (DataSend (now (bytes .entry))) (now (buffer .entry)) ⌝ }
 {
-    put_part(
-        buffer,
-        octet_comparisons::short(bytes, svsc::LONGEST),
-        11,
-        bytes,
-    )
+    put_part(buffer, short(bytes, svsc::LONGEST), 11, bytes)
 }
 
 #[no_mangle]
 pub extern "C" fn svsc_write_data_receive(buffer: &mut [u8], bytes: &[u8]) -> Written
     ensures { λ r. ⌜ written r (now (buffer .exit)) ≡ write (DataReceive (now (bytes .entry))) (now (buffer .entry)) ⌝ }
 {
-    put_part(
-        buffer,
-        octet_comparisons::short(bytes, svsc::LONGEST),
-        12,
-        bytes,
-    )
+    put_part(buffer, short(bytes, svsc::LONGEST), 12, bytes)
 }
 
 #[no_mangle]
