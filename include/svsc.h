@@ -1,7 +1,8 @@
 /* The messages of the ScreenView server protocol (SVSC): a reader and a writer for each form.
  *
- * Link libsvsc_reader.a for the reader and libsvsc_writers.a for the writers, which `rt staticlib svsc_reader` and
- * `rt staticlib svsc_writers` write. Each function is total: any bytes and any numbers get an answer.
+ * Link libsvsc_boundary.a for the reader, and for the writers libsvsc_version_writers.a (types 0 and 1),
+ * libsvsc_lease_writers.a (2 to 5) and libsvsc_session_writers.a (6 to 13): `rt staticlib NAME` writes libNAME.a.
+ * Each function is total: any bytes and any numbers get an answer.
  * Numbers in messages are most significant byte first. Buffers must not overlap.
  */
 #ifndef SVSC_H
@@ -48,8 +49,8 @@ typedef struct {
     uint64_t expiration;
 } svsc_message;
 
-/* What a writer did: `length` bytes written from the buffer's start, its further bytes as they were. On SVSC_MALFORMED
- * and SVSC_SHORT, in this order, the length is 0 and no byte of the buffer has changed. */
+/* What a writer or svsc_field did: `length` bytes written from the buffer's start, its further bytes as they were. On
+ * SVSC_MALFORMED and SVSC_SHORT, in this order, the length is 0 and no byte of the buffer has changed. */
 typedef struct {
     uint32_t number;
     size_t length;
@@ -64,8 +65,8 @@ typedef struct {
 
 svsc_message svsc_read(const uint8_t *message, size_t message_length);
 
-/* Copies a field of bytes of a message into the buffer; none, of length 0, where the message hasn't got it or the
- * bytes are no message. SVSC_DONE or SVSC_SHORT. */
+/* Copies a field of bytes of a message into the buffer, as a writer writes. SVSC_MALFORMED where the bytes are no message;
+ * a field that the message hasn't got has length 0. */
 svsc_written svsc_field(const uint8_t *message, size_t message_length, uint32_t field, uint8_t *buffer, size_t buffer_length);
 
 svsc_written svsc_write_version(uint8_t *buffer, size_t buffer_length, uint16_t major, uint16_t minor);

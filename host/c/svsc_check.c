@@ -90,12 +90,23 @@ static void check_refusals(void) {
     CHECK(svsc_read(buffer, 0).number == SVSC_MALFORMED && svsc_read(buffer, 1).number == SVSC_MALFORMED);
 }
 
+/* A field of bytes that are no message is refused; one that the message hasn't got is empty. */
+static void check_no_field(void) {
+    uint8_t copy[1] = {200};
+    svsc_written written = svsc_field(buffer, 0, SVSC_DATA, copy, sizeof copy);
+    CHECK(written.number == SVSC_MALFORMED && written.length == 0 && copy[0] == 200);
+    check_written(svsc_write_keepalive(buffer, sizeof buffer), 13, 0, 1);
+    written = svsc_field(buffer, 1, SVSC_DATA, copy, sizeof copy);
+    CHECK(written.number == SVSC_DONE && written.length == 0 && copy[0] == 200);
+}
+
 int main(void) {
     check_handshake();
     check_leases();
     check_sessions();
     check_data();
     check_refusals();
+    check_no_field();
     printf("svsc_check: %d failed\n", failures);
     return failures != 0;
 }

@@ -121,7 +121,7 @@ fn own_refusal(
     if are_wrong_lengths(m, random, reply, relay) {
         return 5;
     }
-    if !svsc_reader::messages::from_peer(m) {
+    if !svsc_reader::from_peer(m) {
         return 6;
     }
     let kind = octets::byte(m, 0);

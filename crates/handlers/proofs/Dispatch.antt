@@ -10,11 +10,11 @@ use native.Mathlib.Omega.{arith}
 use lib.Pow.{areBytes}
 use lib.ListN.{length, drop}
 use Rattle.svsc.specs.Messages.{Message, DataSend, decode, encode, wellFormed}
-use Rattle.svsc_reader.specs.Reading.{Answer as ReadAnswer, answer, meaning}
-use Rattle.svsc_reader.specs.declared.Decoded.{Decoded}
-use Rattle.svsc_reader.specs.declared.Decoded.the-variants as case
-use Rattle.svsc_reader.proofs.Decoded.{the-type}
-use Rattle.svsc_reader.proofs.Cases.{in-arm, in-rest}
+use Rattle.svsc_decoded.specs.Reading.{Answer as ReadAnswer, answer, meaning}
+use Rattle.svsc_decoded.specs.declared.Decoded.{Decoded}
+use Rattle.svsc_decoded.specs.declared.Decoded.the-variants as case
+use Rattle.svsc_decoded.proofs.Decoded.{the-type}
+use Rattle.svsc_decoded.proofs.Cases.{in-arm, in-rest}
 use Rattle.svsc.proofs.ReadThenWritten.{decode-sound}
 use Rattle.rules.specs.Tables.{Tables}
 use Rattle.rules.specs.Plans.{Plan, planMessage, doNothing}

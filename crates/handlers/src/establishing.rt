@@ -61,7 +61,7 @@ fn refuse(reply: &mut [u8], id: u32, status: u8) -> Answer
     ensures { λ r. ⌜ ((cs ls al random relay : List ℕ) (c : ℕ) → handled r cs ls (now (reply .exit)) relay
         ≡ applied (planEstablish (lent cs ls al) c id random (refusedWith status)) (now (reply .entry)) relay) ⌝ }
 {
-    let sent = svsc_writers::svsc_write_establish_refused(reply, id, status);
+    let sent = svsc_session_writers::svsc_write_establish_refused(reply, id, status);
     crate::answers::replied(sent.length as u32)
 }
 
@@ -75,7 +75,7 @@ fn tell_caller(reply: &mut [u8], id: u32, random: &[u8]) -> u32
     let session = octets::part(random, 0, svsc::KEY);
     let peer = octets::part(random, 16, svsc::KEY);
     let key = octets::part(random, 32, svsc::KEY);
-    let sent = svsc_writers::svsc_write_established(reply, id, session, peer, key);
+    let sent = svsc_session_writers::svsc_write_established(reply, id, session, peer, key);
     sent.length as u32
 }
 
@@ -88,7 +88,7 @@ fn tell_holder(relay: &mut [u8], random: &[u8]) -> u32
     let session = octets::part(random, 0, svsc::KEY);
     let peer = octets::part(random, 48, svsc::KEY);
     let key = octets::part(random, 64, svsc::KEY);
-    let sent = svsc_writers::svsc_write_establish_notification(relay, session, peer, key);
+    let sent = svsc_session_writers::svsc_write_establish_notification(relay, session, peer, key);
     sent.length as u32
 }
 

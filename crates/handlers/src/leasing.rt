@@ -32,7 +32,7 @@ fn grant(
     let until = leases::lease_end(allowances, time);
     let cookie = octets::part(random, 0, svsc::COOKIE);
     leases::grant(leases, row, until, id, cookie, c);
-    let sent = svsc_writers::svsc_write_lease_granted(reply, id, cookie, until);
+    let sent = svsc_lease_writers::svsc_write_lease_granted(reply, id, cookie, until);
     crate::answers::replied(sent.length as u32)
 }
 
@@ -41,7 +41,7 @@ fn refuse(reply: &mut [u8]) -> Answer
     ensures { λ r. ⌜ ((cs ls al relay : List ℕ) → handled r cs ls (now (reply .exit)) relay ≡ applied (refuseLease (lent cs ls al))
         (now (reply .entry)) relay) ⌝ }
 {
-    let sent = svsc_writers::svsc_write_lease_refused(reply);
+    let sent = svsc_lease_writers::svsc_write_lease_refused(reply);
     crate::answers::replied(sent.length as u32)
 }
 
@@ -94,9 +94,9 @@ pub fn extend(
     if row < leases::end_row(leases::partner_of(c)) {
         let until = leases::lease_end(allowances, time);
         leases::extend(leases, row, until);
-        let sent = svsc_writers::svsc_write_extension_granted(reply, until);
+        let sent = svsc_lease_writers::svsc_write_extension_granted(reply, until);
         return crate::answers::replied(sent.length as u32);
     }
-    let sent = svsc_writers::svsc_write_extension_refused(reply);
+    let sent = svsc_lease_writers::svsc_write_extension_refused(reply);
     crate::answers::replied(sent.length as u32)
 }

@@ -6,7 +6,7 @@ ghost use Rattle.rules.specs.Plans.{planMessage};
 ghost use Rattle.handlers.specs.Applied.{handled, applied};
 ghost use Rattle.handlers.specs.Asked.{Admitted};
 use crate::Answer;
-use svsc_reader::Decoded;
+use svsc_decoded::Decoded;
 
 // Carries out what the message asks for. A keepalive asks for nothing.
 pub fn handle(
@@ -26,7 +26,7 @@ pub fn handle(
         (now (random .entry))
         (decode (now (m .entry)))) (now (reply .entry)) (now (relay .entry)) ⌝ }
 {
-    let d = svsc_reader::messages::read(m);
+    let d = svsc_reader::read(m);
     match d {
         Decoded::VersionAnswer { ok } => crate::sessions::answer_version(connections, c, ok),
         Decoded::LeaseRequest => crate::leasing::lease(leases, allowances, time, c, random, reply),

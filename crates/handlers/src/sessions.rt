@@ -32,7 +32,7 @@ pub fn end(connections: &mut [u8], c: u8, relay: &mut [u8]) -> Answer
 {
     let d = tables::connections::peer(connections, c);
     tables::connections::end_session(connections, c, d);
-    let sent = svsc_writers::svsc_write_session_end_notification(relay);
+    let sent = svsc_session_writers::svsc_write_session_end_notification(relay);
     crate::answers::relayed(sent.length as u32, d)
 }
 
@@ -57,6 +57,6 @@ pub fn send(connections: &[u8], c: u8, m: &[u8], relay: &mut [u8]) -> Answer
 {
     let d = tables::connections::peer(connections, c);
     let bytes = octets::after(m, 1);
-    let sent = svsc_writers::svsc_write_data_receive(relay, bytes);
+    let sent = svsc_session_writers::svsc_write_data_receive(relay, bytes);
     crate::answers::relayed(sent.length as u32, d)
 }

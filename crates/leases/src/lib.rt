@@ -114,11 +114,11 @@ fn passes(leases: &[u8], time: u64, sought: Sought, cookie: &[u8], row: usize) -
         Sought::HeldBy(c) => is_live(leases, time, row) & (holder(leases, row) == c),
         Sought::WithId(id) => is_live_with_id(leases, time, id, row),
         Sought::WithCookie => is_live(leases, time, row)
-            & octets::equal(cookie_of(leases, row), cookie),
+            & octet_comparisons::equal(cookie_of(leases, row), cookie),
         Sought::OwnWithCookie(c) => {
             is_live(leases, time, row)
                 & (holder(leases, row) == c)
-                & octets::equal(cookie_of(leases, row), cookie)
+                & octet_comparisons::equal(cookie_of(leases, row), cookie)
         }
     }
 }

@@ -59,17 +59,10 @@ numberAt-lt xs at n b h = rw (length-part xs at n h) at (number-lt (part xs at n
 pub length-bigEndian : (n v : ℕ) → length (bigEndian n v) ≡ n
 unfolding bigEndian
 length-bigEndian zero v = refl
-length-bigEndian (suc n) v = ap suc (length-bigEndian n v)
+length-bigEndian (suc n) v = ap suc (length-bigEndian n _)
 
 pow256-pos : (n : ℕ) → zero < 256 ^ n
 pow256-pos n = one-le-pow n 256 (lit< tt)
-
--- the bytes of a number do not see what lies above them
-bigEndian-low : (n a v : ℕ) → bigEndian n (a * 256 ^ n + v) ≡ bigEndian n v
-unfolding bigEndian
-bigEndian-low zero a v = refl
-bigEndian-low (suc n) a v =
-    rw (pow-succ' 256 n, ← mul-assoc a 256 (256 ^ n), mul-add-div-right (pow256-pos n) (a * 256) v, mul-add-mod-self-right a 256 (v / 256 ^ n), bigEndian-low n (a * 256) v)
 
 -- ---- both ways
 
@@ -83,6 +76,13 @@ numberFrom-bigEndian (suc n) a v =
 pub number-bigEndian : (n v : ℕ) → v < 256 ^ n → number (bigEndian n v) ≡ v
 unfolding number
 number-bigEndian n v h = numberFrom-bigEndian n 0 v ∙ rw (mod-eq-of-lt h) (omega arith)
+
+-- the bytes of a number do not see what lies above them
+bigEndian-low : (n a v : ℕ) → bigEndian n (a * 256 ^ n + v) ≡ bigEndian n v
+unfolding bigEndian
+bigEndian-low zero a v = refl
+bigEndian-low (suc n) a v =
+    rw (pow-succ' 256 n, ← mul-assoc a 256 (256 ^ n), mul-add-div-right (pow256-pos n) (a * 256) v, mul-add-mod-self-right a 256 (v / 256 ^ n), bigEndian-low n (a * 256) v)
 
 pub bigEndian-number : (xs : List ℕ) → areBytes xs ≡ true → bigEndian (length xs) (number xs) ≡ xs
 unfolding number bigEndian numberFrom

@@ -14,7 +14,12 @@ use Rattle.octets.proofs.Numbers.{length-bigEndian, number-bigEndian}
 
 pub length-put : (xs : List ℕ) (at : ℕ) (vs : List ℕ) → length (put xs at vs) ≡ length xs
 unfolding put
-length-put xs at vs = length-sets xs at vs
+length-put xs at vs = length-sets xs _ vs
+
+-- the run as a part: what was before it, the run, what was after it
+pub put-splice : (xs : List ℕ) (at : ℕ) (vs : List ℕ) → at + length vs ≤ length xs → put xs at vs ≡ take at xs ++ (vs ++ drop (at + length vs) xs)
+unfolding put
+put-splice xs at vs h = sets-eq vs xs at h ∙ append-assoc (take at xs) vs (drop (at + length vs) xs)
 
 -- one run behind another
 pub put-append : (xs : List ℕ) (at : ℕ) (us vs : List ℕ) → put (put xs at us) (at + length us) vs ≡ put xs at (us ++ vs)
@@ -26,11 +31,6 @@ put-append xs at (u ∷ us) vs =
 
 pub put-behind : (xs : List ℕ) (at n : ℕ) (us vs : List ℕ) → length us ≡ n → put (put xs at us) (at + n) vs ≡ put xs at (us ++ vs)
 put-behind xs at n us vs e = ap (λ (k : ℕ). put (put xs at us) (at + k) vs) (sym e) ∙ put-append xs at us vs
-
--- the run as a part: what was before it, the run, what was after it
-pub put-splice : (xs : List ℕ) (at : ℕ) (vs : List ℕ) → at + length vs ≤ length xs → put xs at vs ≡ take at xs ++ (vs ++ drop (at + length vs) xs)
-unfolding put
-put-splice xs at vs h = sets-eq vs xs at h ∙ append-assoc (take at xs) vs (drop (at + length vs) xs)
 
 -- a run as long as the list takes its place
 pub put-whole : (xs vs : List ℕ) → length vs ≡ length xs → put xs 0 vs ≡ vs

@@ -27,7 +27,7 @@ fn accept(
 {
     tables::connections::await_version(connections, c);
     crate::charges::pay(allowances, time, c, rules::CALL_COST);
-    let sent = svsc_writers::svsc_write_version(reply, 1, 0);
+    let sent = svsc_version_writers::svsc_write_version(reply, 1, 0);
     handlers::answers::replied(sent.length as u32)
 }
 

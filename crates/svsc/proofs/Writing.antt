@@ -1,12 +1,13 @@
 -- The ways out of whatever fills a buffer: a field out of its range (6), no room (5), and stored. Assumes nothing.
 use Prim.Native.Nat.{ℕ, _≤_, _<_}
-use mathlib.Core.Path.{_≡_}
+use mathlib.Core.Path.{_≡_, ap₂, _∙_}
 use mathlib.Core.Bool.{Bool, true, false, not}
 use mathlib.Core.List.{List}
 use lib.ListN.{length}
 use borrow.Author.Tests.{lt-ltb, le-ltb}
 use Rattle.octets.specs.Octets.{put}
-use Rattle.svsc.specs.Writing.{emit}
+use Rattle.svsc.specs.Messages.{Message, wellFormed, encode}
+use Rattle.svsc.specs.Writing.{WriteOutcome, emit, write}
 
 module _ (bytes buffer : List ℕ) where
   pub out-of-range : (fits : Bool) → not fits ≡ true → record { number = 6; length = 0; buffer = buffer } ≡ emit fits bytes buffer
@@ -22,3 +23,9 @@ module _ (bytes buffer : List ℕ) where
         → record { number = 0; length = n; buffer = after } ≡ emit fits bytes buffer
     unfolding emit
     stored l n after hn ha = rw (f, le-ltb (length buffer) (length bytes) l, ha, hn)
+
+-- a writer writes a message where its ranges and its bytes are those of the message
+pub writes : (m : Message) (fits : Bool) (bytes buffer : List ℕ) (w : WriteOutcome) → w ≡ emit fits bytes buffer → fits ≡ wellFormed m
+    → bytes ≡ encode m → w ≡ write m buffer
+unfolding write
+writes m fits bytes buffer w e f b = e ∙ ap₂ (λ (f : Bool) (l : List ℕ). emit f l buffer) f b

@@ -1,7 +1,7 @@
 -- What is written is read back as the same message. Assumes nothing.
 use Prim.Native.Nat.{ℕ, suc, _+_, _/_, _%_, _^_, _≤_, _<_}
 use mathlib.Core.Path.{_≡_, refl, sym, ap, ap₂, _∙_}
-use mathlib.Core.Bool.{Bool, true, false, _&&_}
+use mathlib.Core.Bool.{Bool, true, false, not, _&&_}
 use mathlib.Core.Option.{some}
 use mathlib.Core.List.{List, _++_}
 use native.Mathlib.Omega.{arith}
@@ -15,7 +15,8 @@ use Rattle.octets.proofs.Tests.{both-left, both-right}
 use Rattle.octets.proofs.Numbers.{number-bigEndian}
 use Rattle.octets.proofs.Stores.{part-put}
 use Rattle.svsc.specs.Messages.{Message, ProtocolVersion, VersionAnswer, LeaseRequest, LeaseRequestWithCookie, LeaseRefused, LeaseGranted, ExtensionRequest, ExtensionRefused, ExtensionGranted, EstablishRequest, EstablishRefused, Established, EstablishNotification, SessionEnd, SessionEndNotification, DataSend, DataReceive, Keepalive, longestMessage, digits, encode, wellFormed, isDigit, areDigits, digitsAt, isVersion, readings, decode}
-use Rattle.svsc.specs.Writing.{emit, write}
+use Rattle.svsc.specs.Writing.{WriteOutcome, emit, write}
+use Rattle.svsc.proofs.Writing.{out-of-range, too-short}
 
 sized : (n : ℕ) (xs : List ℕ) → isBytes n xs ≡ true → length xs ≡ n
 unfolding isBytes
@@ -122,9 +123,13 @@ pub read-back : (x : Message) (buffer : List ℕ) → write x buffer .number ≡
 unfolding write emit
 read-back x buffer e = by (wellFormed x) (ltb (length buffer) (length (encode x))) refl refl
   where
+    number-of : WriteOutcome → ℕ
+    number-of o = o .number
+
     by : (w s : Bool) → wellFormed x ≡ w → ltb (length buffer) (length (encode x)) ≡ s
         → decode (part (write x buffer .buffer) 0 (write x buffer .length)) ≡ some x
     by true false w s =
         rw (w, s) (ap decode (part-put buffer 0 (encode x) (omega (arith, ltb-false (length buffer) (length (encode x)) s))) ∙ decode-encode x w)
-    by true true w s = let z : _≡_ {A = ℕ} 5 0 = rw (w, s) at e in absurd (omega arith)
-    by false s w t = let z : _≡_ {A = ℕ} 6 0 = rw w at e in absurd (omega arith)
+    by true true w s =
+        let z : _≡_ {A = ℕ} 5 0 = ap number-of (too-short (encode x) buffer (wellFormed x) (ap not w) (ltb-true _ _ s)) ∙ e in absurd (omega arith)
+    by false s w t = let z : _≡_ {A = ℕ} 6 0 = ap number-of (out-of-range (encode x) buffer (wellFormed x) (ap not w)) ∙ e in absurd (omega arith)

@@ -1,3 +1,1 @@
-pub mod Forms
-pub mod Cases
-pub mod FieldNumbers
+mod Peers

@@ -1,39 +1,76 @@
-// The reader of the fourteen messages.
-pub mod messages; // bytes into a message
-pub mod fields; // the fields of bytes of a message
-pub mod boundary; // the reader for C
+// The reader of the fourteen messages: the first byte picks the reader of its type.
+ghost use mathlib.Core.Path.{_≡_};
+ghost use mathlib.Core.Bool.{false};
+ghost use lib.ListN.{getD};
+ghost use Rattle.svsc.specs.Messages.{decode, isSome, fromPeer, sentByPeers};
+ghost use Rattle.svsc_decoded.specs.Reading.{answer, meaning};
+use svsc_decoded::Decoded;
 
-// What bytes are: a case for each form of a message, with its numbers; its fields of bytes are parts of the bytes that were read.
-pub enum Decoded {
-    Version { major: u16, minor: u16 },
-    VersionAnswer { ok: u8 },
-    LeaseRequest,
-    LeaseRequestWithCookie,
-    LeaseRefused,
-    LeaseGranted { id: u32, expiration: u64 },
-    ExtensionRequest,
-    ExtensionRefused,
-    ExtensionGranted { expiration: u64 },
-    EstablishRequest { id: u32 },
-    EstablishRefused { id: u32, status: u8 },
-    Established { id: u32 },
-    EstablishNotification,
-    SessionEnd,
-    SessionEndNotification,
-    DataSend,
-    DataReceive,
-    Keepalive,
-    Malformed,
+// What the bytes are: a message, or Malformed, which is the number 6.
+pub fn read(m: &[u8]) -> Decoded
+    ensures { λ r. ⌜ meaning r (now (m .entry)) ≡ answer (decode (now (m .entry))) ⌝ }
+{
+    if m.len() == 0 {
+        return Decoded::Malformed;
+    }
+    let kind = m[0];
+    match kind {
+        0 => svsc_version_readers::version(m),
+        1 => svsc_version_readers::version_answer(m),
+        2 => svsc_lease_readers::lease_request(m),
+        3 => svsc_lease_readers::lease_response(m),
+        4 => svsc_lease_readers::extension_request(m),
+        5 => svsc_lease_readers::extension_response(m),
+        6 => svsc_session_readers::establish_request(m),
+        7 => svsc_session_readers::establish_response(m),
+        _ => svsc_session_readers::plain(m, kind),
+    }
 }
 
-// The same for C: numbers, 0 where the message hasn't got one; `number` is 0, or 6 where the bytes are no message.
-#[repr(C)]
-pub struct Numbers {
-    pub number: u32,
-    pub kind: u32,
-    pub flag: u32,
-    pub major: u32,
-    pub minor: u32,
-    pub id: u32,
-    pub expiration: u64,
+// Whether the bytes are a message.
+pub fn is_message(m: &[u8]) -> bool
+    ensures { λ r. ⌜ r ≡ isSome (decode (now (m .entry))) ⌝ }
+{
+    let d = read(m);
+    if let Decoded::Malformed = d {
+        return false;
+    }
+    true
+}
+
+// The types that peers send.
+const SENT_BY_PEERS: [bool; 14] = [
+    false,
+    true,
+    true,
+    false,
+    true,
+    false,
+    true,
+    false,
+    false,
+    true,
+    false,
+    true,
+    false,
+    true,
+];
+
+fn sent_by_peers(kind: usize) -> bool
+    ensures { λ r. ⌜ r ≡ getD sentByPeers kind false ⌝ }
+{
+    if kind < 14 {
+        return SENT_BY_PEERS[kind];
+    }
+    false
+}
+
+// Whether the bytes are a message that peers send.
+pub fn from_peer(m: &[u8]) -> bool
+    ensures { λ r. ⌜ r ≡ fromPeer (now (m .entry)) ⌝ }
+{
+    if is_message(m) {
+        return sent_by_peers(octets::byte(m, 0) as usize);
+    }
+    false
 }

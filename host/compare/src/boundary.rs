@@ -62,6 +62,9 @@ impl Boundary for Second {
     }
 
     fn field(&self, message: &[u8], field: u32, buffer: &mut [u8]) -> Written {
+        if decode(message).is_none() {
+            return Written { number: svsc::MALFORMED, length: 0 };
+        }
         written(copy(field_of(message, field), buffer))
     }
 

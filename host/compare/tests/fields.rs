@@ -6,7 +6,7 @@ use compare::boundary::{field_of, Proved};
 use compare::difference::Difference;
 use compare::tally::Tally;
 use compare::{amount, forms};
-use engine::svsc::{DONE, SHORT};
+use engine::svsc::{DONE, MALFORMED, SHORT};
 
 const NAMES: [&str; 7] = ["cookie", "session", "peer", "key", "data", "5", "the highest number"];
 
@@ -19,7 +19,7 @@ fn every_field_of_every_form() -> Result<(), Difference> {
         for message in forms::one_of_each(&mut random, &pool) {
             let bytes = encode(&message).expect("a message whose fields are in range");
             count_fields(&mut tally, &bytes)?;
-            // Mostly no message at all, which has no fields.
+            // Mostly no message at all.
             count_fields(&mut tally, &[&bytes[..], &[0]].concat())?;
         }
     }
@@ -31,6 +31,7 @@ fn every_field_of_every_form() -> Result<(), Difference> {
     println!("{tally}");
     for (name, number) in NAMES.into_iter().zip(agree::FIELDS) {
         tally.assert_reached(name, DONE, true);
+        tally.assert_reached(name, MALFORMED, true);
         tally.assert_reached(name, SHORT, number < 5);
     }
     Ok(())

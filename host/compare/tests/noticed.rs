@@ -73,10 +73,12 @@ fn a_wrong_number_of_a_message() {
 #[test]
 fn a_wrong_answer_or_byte_of_a_field() {
     let bytes = encode(&Message::ExtensionRequest { cookie: COOKIE }).expect("a cookie of 24 bytes");
-    for (field, room) in [(svsc::COOKIE, 23), (svsc::COOKIE, 24), (svsc::COOKIE, 25), (svsc::DATA, 3)] {
-        assert!(agree::field(&UNSPOILED, &bytes, field, room).is_ok());
-        for spoiled in SPOILED_CALLS {
-            assert!(agree::field(&spoiled, &bytes, field, room).is_err());
+    for input in [&bytes[..], &bytes[1..]] {
+        for (field, room) in [(svsc::COOKIE, 23), (svsc::COOKIE, 24), (svsc::COOKIE, 25), (svsc::DATA, 3)] {
+            assert!(agree::field(&UNSPOILED, input, field, room).is_ok());
+            for spoiled in SPOILED_CALLS {
+                assert!(agree::field(&spoiled, input, field, room).is_err());
+            }
         }
     }
 }

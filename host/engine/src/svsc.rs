@@ -2,8 +2,13 @@
 
 use std::mem::{offset_of, size_of};
 
-/// The archive of these functions, for a C program to link too.
-pub const ARCHIVES: [&str; 2] = [env!("CRONDELITH_LINKED_SVSC_READER"), env!("CRONDELITH_LINKED_SVSC_WRITERS")];
+/// The archives of these functions, for a C program to link too.
+pub const ARCHIVES: [&str; 4] = [
+    env!("CRONDELITH_LINKED_SVSC_BOUNDARY"),
+    env!("CRONDELITH_LINKED_SVSC_VERSION_WRITERS"),
+    env!("CRONDELITH_LINKED_SVSC_LEASE_WRITERS"),
+    env!("CRONDELITH_LINKED_SVSC_SESSION_WRITERS"),
+];
 
 pub const DONE: u32 = 0;
 /// The buffer is too short.
@@ -132,7 +137,7 @@ pub fn read(message: &[u8]) -> Message {
     unsafe { c::svsc_read(message.as_ptr(), message.len()) }
 }
 
-/// Copies a field of bytes of a message into the buffer.
+/// Copies a field of bytes of a message into the buffer; [`MALFORMED`] where the bytes are no message.
 pub fn field(message: &[u8], field: u32, buffer: &mut [u8]) -> Written {
     let (at, room) = (buffer.as_mut_ptr(), buffer.len());
     unsafe { c::svsc_field(message.as_ptr(), message.len(), field, at, room) }

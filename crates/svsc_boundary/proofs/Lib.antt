@@ -1,0 +1,2 @@
+mod FieldNumbers
+mod Fieldless
