@@ -1,8 +1,6 @@
-// The relay: fresh, open, message and close, each proved equal to the rules for every input.
-pub mod charges; // paying for a call
-pub mod fresh; // making a fresh relay
-pub mod open; // opening a connection
-pub mod message; // a message: checked, carried out and charged
-pub mod close; // closing a connection
-
-pub use handlers::Answer;
+// The relay: its four calls, each proved equal to the rules for every input, from the crates that hold them.
+pub use answers::Answer;
+pub use relay_close::crondelith_close;
+pub use relay_fresh::crondelith_fresh;
+pub use relay_message::crondelith_message;
+pub use relay_open::crondelith_open;
