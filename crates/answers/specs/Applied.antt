@@ -9,15 +9,12 @@ use Rattle.rules.specs.Calls.{Answer as Ruled}
 use Rattle.rules.specs.Plans.{Plan}
 use Rattle.answers.specs.declared.Answer.{Answer}
 
+abbrev pub answerOf : ℕ → ℕ → ℕ → ℕ → ℕ → Answer
+answerOf number reply relay destination disconnect = record { number = number; reply = reply; relay = relay; destination = destination; disconnect = disconnect }
+
 -- yes is 1, no is 0
 abbrev pub coded : Ruled → Answer
-coded a = record {
-  number = a .number;
-  reply = a .replyLength;
-  relay = a .relayLength;
-  destination = a .destination;
-  disconnect = if a .disconnect then 1 else 0;
-}
+coded a = answerOf (a .number) (a .replyLength) (a .relayLength) (a .destination) (if a .disconnect then 1 else 0)
 
 -- answers of calls that are done: bytes for the caller alone, and for another connection alone
 abbrev pub replied : ℕ → Ruled

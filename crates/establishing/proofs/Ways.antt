@@ -1,20 +1,18 @@
 -- The ways out of the functions that establish sessions, over plain values. Assumes nothing.
 use Prim.Native.Nat.{ℕ, _+_, _^_, _≤_, _<_}
-use mathlib.Core.Path.{_≡_, sym}
-use mathlib.Core.Bool.{Bool, true, false, not, _&&_}
+use mathlib.Core.Path.{_≡_}
+use mathlib.Core.Bool.{true}
 use mathlib.Core.List.{List}
 use native.Mathlib.Omega.{arith}
-use lib.Dec.{eqb, ltb}
 use lib.ListN.{length, getD, length-append}
-use borrow.Author.Tests.{lt-ltb, le-ltb, le-leb, eq-eqb, ne-eqb}
-use Rattle.octets.specs.Octets.{if_then_else_, part, put, isBytes}
+use borrow.Author.Tests.{lt-ltb, le-leb}
+use Rattle.octets.specs.Octets.{part, put, isBytes}
 use Rattle.octets.proofs.Numbers.{length-bigEndian}
 use Rattle.svsc.specs.Messages.{Message, EstablishRefused, Established, EstablishNotification, encode, wellFormed}
 use Rattle.svsc.specs.Writing.{WriteOutcome, write}
 use Rattle.rules.specs.Sizes.{randomBytes, leastBuffer}
-use Rattle.rules.specs.Tables.{lent, partnerOf, ownerOf, isOpen, hasSession, holder, holderCounts}
-use Rattle.rules.specs.Searches.{endRow}
-use Rattle.rules.specs.Sessions.{refusedWith, establishedWith, rowOfId, decideEstablish, establish, randomSessionId, callersPeerId, callersKey, holdersPeerId, holdersKey}
+use Rattle.rules.specs.Tables.{lent}
+use Rattle.rules.specs.Sessions.{refusedWith, establishedWith, establish, randomSessionId, callersPeerId, callersKey, holdersPeerId, holdersKey}
 use Rattle.rules.specs.Plans.{planEstablish}
 use Rattle.answers.specs.declared.Answer.{Answer}
 use Rattle.answers.specs.Applied.{handled, applied, coded, replied, toldBoth}
@@ -57,7 +55,7 @@ module _ (form : List ℕ → List ℕ → List ℕ → Message)
   pair-told : (random buffer : List ℕ) → ((i : ℕ) → getD random i 0 < 256) → length random ≡ randomBytes → leastBuffer ≤ length buffer
       → (at : ℕ) → at + 32 ≤ randomBytes → (s p k : List ℕ) → s ≡ part random 0 16 → p ≡ part random at 16 → k ≡ part random (at + 16) 16
       → (o : WriteOutcome) → o ≡ write (form s p k) buffer
-      → (Wrote (encode (form (part random 0 16) (part random at 16) (part random (at + 16) 16))) (o .length) buffer (o .buffer)) × (o .length ≤ leastBuffer)
+      → Wrote (encode (form (part random 0 16) (part random at 16) (part random (at + 16) 16))) (o .length) buffer (o .buffer)
   pair-told random buffer bytes size room at h s p k es ep ek o e =
       let hs : isBytes 16 s ≡ true = rw es (part-bytes random 0 16 bytes (omega arith)) in
       let hp : isBytes 16 p ≡ true = rw ep (part-bytes random at 16 bytes (omega arith)) in
@@ -65,77 +63,18 @@ module _ (form : List ℕ → List ℕ → List ℕ → Message)
       let whole = sizes s p k hs hp hk in
       let fits : length (encode (form s p k)) ≤ length buffer = omega arith in
       let count = sent-length (form s p k) buffer o e (ranges s p k hs hp hk) fits in
-      (rw (← es, ← ep, ← ek) (record { count = count; stored = sent-buffer (form s p k) buffer o e (ranges s p k hs hp hk) fits }), omega arith)
+      rw (← es, ← ep, ← ek) (record { count = count; stored = sent-buffer (form s p k) buffer o e (ranges s p k hs hp hk) fits })
 
 module _ (random buffer : List ℕ) (bytes : (i : ℕ) → getD random i 0 < 256) (size : length random ≡ randomBytes) (room : leastBuffer ≤ length buffer) (s p k : List ℕ) (es : s ≡ randomSessionId random) (o : WriteOutcome) where
   pub caller-told : (id : ℕ) → id < 2 ^ 32 → p ≡ callersPeerId random → k ≡ callersKey random → o ≡ write (Established id s p k) buffer
-      → (Wrote (encode (Established id (randomSessionId random) (callersPeerId random) (callersKey random))) (o .length) buffer (o .buffer)) × (o .length ≤ leastBuffer)
+      → Wrote (encode (Established id (randomSessionId random) (callersPeerId random) (callersKey random))) (o .length) buffer (o .buffer)
   caller-told id hi ep ek e =
       pair-told (Established id) (λ s p k hs hp hk. established-ranges s p k hs hp hk id hi) 54 (λ s p k hs hp hk. established-length s p k hs hp hk id) (omega arith) random buffer bytes size room 16 (omega arith) s p k es ep ek o e
 
   pub holder-told : p ≡ holdersPeerId random → k ≡ holdersKey random → o ≡ write (EstablishNotification s p k) buffer
-      → (Wrote (encode (EstablishNotification (randomSessionId random) (holdersPeerId random) (holdersKey random))) (o .length) buffer (o .buffer)) × (o .length ≤ leastBuffer)
+      → Wrote (encode (EstablishNotification (randomSessionId random) (holdersPeerId random) (holdersKey random))) (o .length) buffer (o .buffer)
   holder-told ep ek e =
       pair-told EstablishNotification notification-ranges 49 notification-length (omega arith) random buffer bytes size room 48 (omega arith) s p k es ep ek o e
-
--- ---- decisions
-
-module _ (cs ls : List ℕ) (time c id : ℕ) (s : Bool) (hs : s ≡ hasSession cs c) where
-  pub busy : s ≡ true → refusedWith 4 ≡ decideEstablish cs ls time c id
-  unfolding decideEstablish
-  busy h = rw (← hs, h)
-
-  module _ (free : s ≡ false) (row end : ℕ) (hr : row ≡ rowOfId ls time (partnerOf c) id) (he : end ≡ endRow (partnerOf c)) where
-    pub not-found : end ≤ row → refusedWith 1 ≡ decideEstablish cs ls time c id
-    unfolding decideEstablish
-    not-found l = rw (← hs, free, ← hr, ← he, le-ltb row end l)
-
-    module _ (l : row < end) (h : ℕ) (hh : h ≡ holder ls row) (k : Bool) (hk : k ≡ eqb (partnerOf h) (ownerOf row) && isOpen cs h) where
-      counts : holderCounts cs ls row ≡ k
-      unfolding holderCounts
-      counts = rw (← hh) (sym hk)
-
-      pub offline : not k ≡ true → refusedWith 2 ≡ decideEstablish cs ls time c id
-      unfolding decideEstablish
-      offline n = rw (← hs, free, ← hr, ← he, lt-ltb row end l, counts, n)
-
-      module _ (counted : not k ≡ false) where
-        pub itself : h ≡ c → refusedWith 5 ≡ decideEstablish cs ls time c id
-        unfolding decideEstablish
-        itself e = rw (← hs, free, ← hr, ← he, lt-ltb row end l, counts, counted, ← hh, eq-eqb h c e)
-
-        module _ (other : h ≡ c → ⊥) (t : Bool) (ht : t ≡ hasSession cs h) where
-          pub taken : t ≡ true → refusedWith 3 ≡ decideEstablish cs ls time c id
-          unfolding decideEstablish
-          taken b = rw (← hs, free, ← hr, ← he, lt-ltb row end l, counts, counted, ← hh, ne-eqb h c other, ← ht, b)
-
-          pub paired : t ≡ false → establishedWith h ≡ decideEstablish cs ls time c id
-          unfolding decideEstablish
-          paired b = rw (← hs, free, ← hr, ← he, lt-ltb row end l, counts, counted, ← hh, ne-eqb h c other, ← ht, b)
-
--- a status that refuses is 1 to 5
-pub status-range : (cs ls : List ℕ) (time c id status : ℕ) → decideEstablish cs ls time c id ≡ refusedWith status → (1 ≤ status) × (status ≤ 5)
-unfolding decideEstablish
-status-range cs ls time c id status e =
-    by (hasSession cs c) (ltb r (endRow (partnerOf c))) (holderCounts cs ls r) (eqb (holder ls r) c) (hasSession cs (holder ls r)) e
-  where
-    r : ℕ
-    r = rowOfId ls time (partnerOf c) id
-
-    by : (a b d f g : Bool)
-        → (if a then refusedWith 4
-        else if not b then refusedWith 1
-        else if not d then refusedWith 2
-        else if f then refusedWith 5
-        else if g then refusedWith 3
-        else establishedWith (holder ls r))
-        ≡ refusedWith status → (1 ≤ status) × (status ≤ 5)
-    by true b d f g e = let s : _≡_ {A = ℕ} 4 status = cc in (omega arith, omega arith)
-    by false false d f g e = let s : _≡_ {A = ℕ} 1 status = cc in (omega arith, omega arith)
-    by false true false f g e = let s : _≡_ {A = ℕ} 2 status = cc in (omega arith, omega arith)
-    by false true true true g e = let s : _≡_ {A = ℕ} 5 status = cc in (omega arith, omega arith)
-    by false true true false true e = let s : _≡_ {A = ℕ} 3 status = cc in (omega arith, omega arith)
-    by false true true false false e = let z : _≡_ {A = ℕ} 0 1 = cc in absurd (omega arith)
 
 -- ---- the ways out
 

@@ -1,60 +1,18 @@
-// Sessions established: decided first, then written.
+// Sessions established: decided first, then written. What a function requires is what the checks have shown.
 ghost use mathlib.Core.Path.{_≡_};
-ghost use mathlib.Core.Bool.{_&&_};
 ghost use mathlib.Core.List.{List};
 ghost use Prim.Native.Nat.{ℕ, _≤_, _<_};
-ghost use lib.Dec.{eqb};
 ghost use lib.ListN.{length};
 ghost use Rattle.svsc.specs.Messages.{encode, Established, EstablishNotification};
 ghost use Rattle.rules.specs.Sizes.{connectionCount, leasesSize, leastBuffer, randomBytes};
-ghost use Rattle.rules.specs.Tables.{lent, partnerOf, ownerOf, isOpen};
+ghost use Rattle.rules.specs.Tables.{lent};
 ghost use Rattle.rules.specs.Sessions.{decideEstablish, refusedWith, establishedWith};
 ghost use Rattle.rules.specs.Sessions.{randomSessionId, callersPeerId, callersKey, holdersPeerId, holdersKey};
 ghost use Rattle.rules.specs.Plans.{planEstablish};
 ghost use Rattle.answers.specs.Applied.{handled, applied};
 ghost use Rattle.establishing.specs.Asked.{Wrote, Joinable};
-ghost use Rattle.establishing.specs.Decisions.{decidedAs};
 use answers::Answer;
-
-// The status that refuses a session, or the holder that it is with.
-pub enum EstablishDecision {
-    RefusedWith(u8),
-    EstablishedWith(u8),
-}
-
-// Whether the holder of a row counts: an open connection of the row's partner.
-fn holder_counts(connections: &[u8], row: usize, holder: u8) -> bool
-    ensures { λ r. ⌜ r ≡ (eqb (partnerOf holder) (ownerOf row) && isOpen (now (connections .entry)) holder) ⌝ }
-{
-    (holder as usize / rules::CONNECTIONS_PER_PARTNER == row / rules::ROWS_PER_PARTNER)
-        & tables::connections::is_open(connections, holder)
-}
-
-// The first status that applies, in 01's order, or the holder.
-fn decide(connections: &[u8], leases: &[u8], time: u64, c: u8, id: u32) -> EstablishDecision
-    requires { ⌜ (length (now leases) ≡ leasesSize) × (c < connectionCount) ⌝ }
-    ensures { λ r. ⌜ decidedAs r ≡ decideEstablish (now (connections .entry)) (now (leases .entry)) time c id ⌝ }
-{
-    if tables::connections::has_session(connections, c) {
-        return EstablishDecision::RefusedWith(4);
-    }
-    let partner = leases::partner_of(c);
-    let row = leases::row_of_id(leases, time, partner, id);
-    if leases::end_row(partner) <= row {
-        return EstablishDecision::RefusedWith(1);
-    }
-    let holder = leases::holder(leases, row);
-    if !holder_counts(connections, row, holder) {
-        return EstablishDecision::RefusedWith(2);
-    }
-    if holder == c {
-        return EstablishDecision::RefusedWith(5);
-    }
-    if tables::connections::has_session(connections, holder) {
-        return EstablishDecision::RefusedWith(3);
-    }
-    EstablishDecision::EstablishedWith(holder)
-}
+use statuses::EstablishDecision;
 
 fn refuse(reply: &mut [u8], id: u32, status: u8) -> Answer
     requires { ⌜ (1 ≤ status) × (status ≤ 5) × (leastBuffer ≤ length (now reply)) ⌝ }
@@ -129,7 +87,7 @@ pub fn establish(
         ≡ applied (planEstablish (lent (now (connections .entry)) (now (leases .entry)) al) c id (now (random .entry))
         (decideEstablish (now (connections .entry)) (now (leases .entry)) time c id)) (now (reply .entry)) (now (relay .entry))) ⌝ }
 {
-    let decision = decide(connections, leases, time, c, id);
+    let decision = statuses::decide(connections, leases, time, c, id);
     match decision {
         EstablishDecision::RefusedWith(status) => refuse(reply, id, status),
         EstablishDecision::EstablishedWith(holder) => join(

@@ -1,14 +1,13 @@
 -- The ways out of the version answer, the end of a session and data, over plain values. Assumes nothing.
-use Prim.Native.Nat.{ℕ, suc, _<_}
+use Prim.Native.Nat.{ℕ, _<_}
 use mathlib.Core.Path.{_≡_, refl}
 use mathlib.Core.Bool.{Bool, true, false}
 use mathlib.Core.List.{List, [], _∷_}
 use native.Mathlib.Omega.{arith}
 use lib.ListN.{length, drop}
-use borrow.Author.Tests.{ne-eqb, ltb-true}
-use Rattle.octets.specs.Octets.{if_then_else_, isShort, put}
-use Rattle.octets.proofs.Tests.{both-left}
-use Rattle.svsc.specs.Messages.{SessionEndNotification, DataReceive, longestMessage, encode}
+use borrow.Author.Tests.{ne-eqb}
+use Rattle.octets.specs.Octets.{if_then_else_, put}
+use Rattle.svsc.specs.Messages.{SessionEndNotification, DataReceive, encode}
 use Rattle.rules.specs.Tables.{lent, opened, peer, hasSession, setState}
 use Rattle.rules.specs.Sessions.{clear, endSession}
 use Rattle.rules.specs.Calls.{sentNothing}
@@ -56,11 +55,3 @@ pub data-length : (m : List ℕ) → 0 < length m → length (encode (DataReceiv
 unfolding encode
 data-length [] h = absurd (omega arith)
 data-length (x ∷ xs) h = refl
-
-pub data-whole : (bytes : List ℕ) → length (encode (DataReceive bytes)) ≡ suc (length bytes)
-unfolding encode
-data-whole bytes = refl
-
-pub below-longest : (bytes : List ℕ) → isShort longestMessage bytes ≡ true → length bytes < longestMessage
-unfolding isShort
-below-longest bytes h = ltb-true _ _ (both-left _ _ h)

@@ -30,10 +30,10 @@ pub fn end(connections: &mut [u8], c: u8, relay: &mut [u8]) -> Answer
     ensures { λ r. ⌜ ((ls al reply : List ℕ) → handled r (now (connections .exit)) ls reply (now (relay .exit))
         ≡ applied (planEnd (lent (now (connections .entry)) ls al) c) reply (now (relay .entry))) ⌝ }
 {
-    let d = tables::connections::peer(connections, c);
-    tables::connections::end_session(connections, c, d);
+    let other = tables::connections::peer(connections, c);
+    tables::connections::end_session(connections, c, other);
     let sent = svsc_writers::svsc_write_session_end_notification(relay);
-    answers::relayed(sent.length as u32, d)
+    answers::relayed(sent.length as u32, other)
 }
 
 // The same of a connection that may have no session.
@@ -55,8 +55,8 @@ pub fn send(connections: &[u8], c: u8, m: &[u8], relay: &mut [u8]) -> Answer
     ensures { λ r. ⌜ ((ls al reply : List ℕ) → handled r (now (connections .entry)) ls reply (now (relay .exit))
         ≡ applied (planData (lent (now (connections .entry)) ls al) c (drop 1 (now (m .entry)))) reply (now (relay .entry))) ⌝ }
 {
-    let d = tables::connections::peer(connections, c);
+    let destination = tables::connections::peer(connections, c);
     let bytes = octets::after(m, 1);
     let sent = svsc_writers::svsc_write_data_receive(relay, bytes);
-    answers::relayed(sent.length as u32, d)
+    answers::relayed(sent.length as u32, destination)
 }

@@ -4,8 +4,8 @@ use Rattle.rules.specs.Tables.{lent}
 use Rattle.rules.specs.Sessions.{EstablishDecision}
 use Rattle.rules.specs.Plans.{planEstablish}
 use Rattle.answers.specs.Applied.{applied}
-use Rattle.establishing.specs.Decisions.{decidedAs}
-use Rattle.establishing.proofs.Ways.{status-range}
+use Rattle.statuses.specs.Decisions.{decidedAs}
+use Rattle.statuses.proofs.Ways.{status-range}
 use borrow.Author.Needs.{needs}
 use Rattle.establishing.proofs.establish.Statement.{statement}
 use Rattle.establishing.proofs.establish.Tie as tie

@@ -1,7 +1,7 @@
 -- `refuse`: the status, written.
 use native.Mathlib.Omega.{arith}
 use Rattle.svsc.specs.Messages.{EstablishRefused}
-use Rattle.answers.proofs.Writes.{sent-length, sent-buffer}
+use Rattle.answers.proofs.Writes.{sent-length, sent-buffer, written-short}
 use Rattle.establishing.proofs.Ways.{status-ranges, status-length, session-refused}
 use borrow.Author.Needs.{needs}
 use Rattle.establishing.proofs.refuse.Statement.{statement}
@@ -11,11 +11,7 @@ svsc-write-establish-refused-requires : tie.Need-svsc-write-establish-refused-re
 svsc-write-establish-refused-requires c κs = search needs
 
 cast-replied : tie.Need-cast-replied
-cast-replied c =
-    let s = c .before .before .before .before .before .before in
-    let n = sent-length (EstablishRefused (s .args .id) (s .args .status)) (s .args .reply .now) _ (c .before .before .before .svsc-write-establish-refused .ensures)
-    (status-ranges (s .args .id) (s .args .status) (s .fits .id .fits) (s .pre .0) (s .pre .1)) (omega (arith, s .pre .2, status-length (s .args .id) (s .args .status))) in
-    omega (arith, status-length (s .args .id) (s .args .status))
+cast-replied c = omega (arith, written-short _ _ _ (c .before .before .before .svsc-write-establish-refused .ensures))
 
 replied-requires : tie.Need-replied-requires
 replied-requires c κs = search needs

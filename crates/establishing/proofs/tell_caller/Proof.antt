@@ -1,6 +1,7 @@
 -- The message, with its own pair.
 use native.Mathlib.Omega.{arith}
 use Rattle.establishing.proofs.Ways.{caller-told}
+use Rattle.answers.proofs.Writes.{written-short}
 use borrow.Author.Needs.{needs}
 use Rattle.establishing.proofs.tell_caller.Statement.{statement}
 use Rattle.establishing.proofs.tell_caller.Tie as tie
@@ -18,11 +19,7 @@ svsc-write-established-requires : tie.Need-svsc-write-established-requires
 svsc-write-established-requires c κs = search needs
 
 cast-result : tie.Need-cast-result
-cast-result c =
-    let s = c .before .before .before .before .before .before .before .before .before .before in
-    let a = s .args in
-    let small = (caller-told (a .random .now) (a .reply .now) (λ i. omega (arith, c .before .before .before .before .before .before .before .before .shared-slice-known .given i)) (s .pre .1) (s .pre .0) _ _ _ (c .before .before .before .before .before .before .before .part .ensures) _ (a .id) (s .fits .id .fits) (c .before .before .before .before .before .before .part2 .ensures) (c .before .before .before .before .before .part3 .ensures) (c .before .before .before .svsc-write-established .ensures)) .1 in
-    omega arith
+cast-result c = omega (arith, written-short _ _ _ (c .before .before .before .svsc-write-established .ensures))
 
 same-length : tie.Need-same-length
 same-length c = search needs
@@ -31,7 +28,7 @@ returns : tie.Need-returns
 returns c =
     let s = c .before .before .before .before .before .before .before .before .before .before in
     let a = s .args in
-    (caller-told (a .random .now) (a .reply .now) (λ i. omega (arith, c .before .before .before .before .before .before .before .before .shared-slice-known .given i)) (s .pre .1) (s .pre .0) _ _ _ (c .before .before .before .before .before .before .before .part .ensures) _ (a .id) (s .fits .id .fits) (c .before .before .before .before .before .before .part2 .ensures) (c .before .before .before .before .before .part3 .ensures) (c .before .before .before .svsc-write-established .ensures)) .0
+    caller-told (a .random .now) (a .reply .now) (λ i. omega (arith, c .before .before .before .before .before .before .before .before .shared-slice-known .given i)) (s .pre .1) (s .pre .0) _ _ _ (c .before .before .before .before .before .before .before .part .ensures) _ (a .id) (s .fits .id .fits) (c .before .before .before .before .before .before .part2 .ensures) (c .before .before .before .before .before .part3 .ensures) (c .before .before .before .svsc-write-established .ensures)
 
 pub tell-caller-spec : {M : Type 1} → statement M
 tell-caller-spec =

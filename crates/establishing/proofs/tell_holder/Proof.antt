@@ -1,6 +1,7 @@
 -- The message, with its own pair.
 use native.Mathlib.Omega.{arith}
 use Rattle.establishing.proofs.Ways.{holder-told}
+use Rattle.answers.proofs.Writes.{written-short}
 use borrow.Author.Needs.{needs}
 use Rattle.establishing.proofs.tell_holder.Statement.{statement}
 use Rattle.establishing.proofs.tell_holder.Tie as tie
@@ -18,11 +19,7 @@ svsc-write-establish-notification-requires : tie.Need-svsc-write-establish-notif
 svsc-write-establish-notification-requires c κs = search needs
 
 cast-result : tie.Need-cast-result
-cast-result c =
-    let s = c .before .before .before .before .before .before .before .before .before .before in
-    let a = s .args in
-    let small = (holder-told (a .random .now) (a .relay .now) (λ i. omega (arith, c .before .before .before .before .before .before .before .before .shared-slice-known .given i)) (s .pre .1) (s .pre .0) _ _ _ (c .before .before .before .before .before .before .before .part .ensures) _ (c .before .before .before .before .before .before .part2 .ensures) (c .before .before .before .before .before .part3 .ensures) (c .before .before .before .svsc-write-establish-notification .ensures)) .1 in
-    omega arith
+cast-result c = omega (arith, written-short _ _ _ (c .before .before .before .svsc-write-establish-notification .ensures))
 
 same-length : tie.Need-same-length
 same-length c = search needs
@@ -31,7 +28,7 @@ returns : tie.Need-returns
 returns c =
     let s = c .before .before .before .before .before .before .before .before .before .before in
     let a = s .args in
-    (holder-told (a .random .now) (a .relay .now) (λ i. omega (arith, c .before .before .before .before .before .before .before .before .shared-slice-known .given i)) (s .pre .1) (s .pre .0) _ _ _ (c .before .before .before .before .before .before .before .part .ensures) _ (c .before .before .before .before .before .before .part2 .ensures) (c .before .before .before .before .before .part3 .ensures) (c .before .before .before .svsc-write-establish-notification .ensures)) .0
+    holder-told (a .random .now) (a .relay .now) (λ i. omega (arith, c .before .before .before .before .before .before .before .before .shared-slice-known .given i)) (s .pre .1) (s .pre .0) _ _ _ (c .before .before .before .before .before .before .before .part .ensures) _ (c .before .before .before .before .before .before .part2 .ensures) (c .before .before .before .before .before .part3 .ensures) (c .before .before .before .svsc-write-establish-notification .ensures)
 
 pub tell-holder-spec : {M : Type 1} → statement M
 tell-holder-spec =

@@ -6,7 +6,7 @@ use lib.ListN.{length}
 use Rattle.svsc.specs.Messages.{ExtensionRefused, ExtensionGranted, encode, wellFormed}
 use Rattle.rules.specs.Tables.{partnerOf}
 use Rattle.rules.specs.Searches.{endRow}
-use Rattle.answers.proofs.Writes.{sent-length, sent-buffer}
+use Rattle.answers.proofs.Writes.{sent-length, sent-buffer, written-short}
 use Rattle.leasing.proofs.Ways.{until-below, extension-ranges, extension-length, extended, not-extended}
 use borrow.Author.Needs.{needs}
 use Rattle.leasing.proofs.extend.Statement.{statement}
@@ -34,15 +34,7 @@ svsc-write-extension-granted-requires : tie.Need-svsc-write-extension-granted-re
 svsc-write-extension-granted-requires c κs = search needs
 
 cast-replied : tie.Need-cast-replied
-cast-replied c =
-    let s = c .before .before .before .before .before .before .before .before .before .before .before .before .before .before .before .before .before .before .before .before in
-    let a = s .args in
-    let until = c .before .before .before .before .before .before .before .before .before .lease-end .result in
-    let low : until < 2 ^ 64 = rw (c .before .before .before .before .before .before .before .before .before .lease-end .ensures) (until-below (a .allowances .now) (a .time) (s .pre .timely)) in
-    let room : length (encode (ExtensionGranted until)) ≤ length (a .reply .now) = omega (arith, extension-length until, s .pre .room) in
-    let wrote = c .before .before .before .svsc-write-extension-granted .ensures in
-    let n = sent-length (ExtensionGranted until) (a .reply .now) _ wrote (extension-ranges until low) room in
-    omega (arith, extension-length until)
+cast-replied c = omega (arith, written-short _ _ _ (c .before .before .before .svsc-write-extension-granted .ensures))
 
 replied-requires : tie.Need-replied-requires
 replied-requires c κs = search needs
@@ -71,8 +63,7 @@ svsc-write-extension-refused-requires : tie.Need-svsc-write-extension-refused-re
 svsc-write-extension-refused-requires c κs = search needs
 
 cast-replied-2 : tie.Need-cast-replied-2
-unfolding wellFormed encode
-cast-replied-2 c = let n = sent-length ExtensionRefused (c .before .before .before .before .before .before .before .before .before .before .before .before .before .before .before .args .reply .now) _ (c .before .before .before .svsc-write-extension-refused .ensures) refl (omega (arith, c .before .before .before .before .before .before .before .before .before .before .before .before .before .before .before .pre .room)) in omega arith
+cast-replied-2 c = omega (arith, written-short _ _ _ (c .before .before .before .svsc-write-extension-refused .ensures))
 
 replied-requires-2 : tie.Need-replied-requires-2
 replied-requires-2 c κs = search needs

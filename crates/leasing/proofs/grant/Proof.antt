@@ -6,7 +6,7 @@ use mathlib.Core.Bool.{true}
 use lib.ListN.{length}
 use Rattle.octets.specs.Octets.{isBytes}
 use Rattle.svsc.specs.Messages.{LeaseGranted, encode}
-use Rattle.answers.proofs.Writes.{part-bytes, sized-length, sent-length, sent-buffer}
+use Rattle.answers.proofs.Writes.{part-bytes, sized-length, sent-length, sent-buffer, written-short}
 use Rattle.leasing.proofs.Ways.{until-below, lease-ranges, lease-length, lease-given}
 use borrow.Author.Needs.{needs}
 use Rattle.leasing.proofs.grant.Statement.{statement}
@@ -25,19 +25,7 @@ svsc-write-lease-granted-requires : tie.Need-svsc-write-lease-granted-requires
 svsc-write-lease-granted-requires c κs = search needs
 
 cast-replied : tie.Need-cast-replied
-cast-replied c =
-    let s = c .before .before .before .before .before .before .before .before .before .before .before .before .before .before .before in
-    let a = s .args in
-    let until = c .before .before .before .before .before .before .before .before .before .before .lease-end .result in
-    let cookie = c .before .before .before .before .before .before .before .before .before .part .result .now in
-    let bytes : isBytes 24 cookie ≡ true = rw (c .before .before .before .before .before .before .before .before .before .part .ensures) (part-bytes (a .random .now) 0 24 (λ i. omega (arith, c .before .before .before .before .before .before .before .before .before .before .before .before .shared-slice-known2 .given i)) (omega (arith, s .pre .1))) in
-    let size : length cookie ≡ 24 = sized-length cookie 24 bytes in
-    let low : until < 2 ^ 64 = rw (c .before .before .before .before .before .before .before .before .before .before .lease-end .ensures) (until-below (a .allowances .now) (a .time) (s .pre .0 .timely)) in
-    let ranges = lease-ranges (a .id) cookie until (s .fits .id .fits) bytes low in
-    let room : length (encode (LeaseGranted (a .id) cookie until)) ≤ length (a .reply .now) = omega (arith, lease-length (a .id) cookie until size, s .pre .0 .room) in
-    let wrote = c .before .before .before .svsc-write-lease-granted .ensures in
-    let n = sent-length (LeaseGranted (a .id) cookie until) (a .reply .now) _ wrote ranges room in
-    omega (arith, lease-length (a .id) cookie until size)
+cast-replied c = omega (arith, written-short _ _ _ (c .before .before .before .svsc-write-lease-granted .ensures))
 
 replied-requires : tie.Need-replied-requires
 replied-requires c κs = search needs

@@ -2,7 +2,7 @@
 use native.Mathlib.Omega.{arith}
 use mathlib.Core.Path.{refl}
 use Rattle.svsc.specs.Messages.{LeaseRefused, encode, wellFormed}
-use Rattle.answers.proofs.Writes.{sent-length, sent-buffer}
+use Rattle.answers.proofs.Writes.{sent-length, sent-buffer, written-short}
 use Rattle.leasing.proofs.Ways.{lease-refused}
 use borrow.Author.Needs.{needs}
 use Rattle.leasing.proofs.refuse.Statement.{statement}
@@ -12,8 +12,7 @@ svsc-write-lease-refused-requires : tie.Need-svsc-write-lease-refused-requires
 svsc-write-lease-refused-requires c κs = search needs
 
 cast-replied : tie.Need-cast-replied
-unfolding wellFormed encode
-cast-replied c = let n = sent-length LeaseRefused (c .before .before .before .before .before .before .args .reply .now) _ (c .before .before .before .svsc-write-lease-refused .ensures) refl (omega (arith, c .before .before .before .before .before .before .pre)) in omega arith
+cast-replied c = omega (arith, written-short _ _ _ (c .before .before .before .svsc-write-lease-refused .ensures))
 
 replied-requires : tie.Need-replied-requires
 replied-requires c κs = search needs

@@ -2,7 +2,7 @@
 use native.Mathlib.Omega.{arith}
 use mathlib.Core.Path.{refl}
 use Rattle.svsc.specs.Messages.{ProtocolVersion, digits, encode, wellFormed}
-use Rattle.answers.proofs.Writes.{sent-length, sent-buffer}
+use Rattle.answers.proofs.Writes.{sent-length, sent-buffer, written-short}
 use Rattle.relay_open.proofs.Ways.{open-done}
 use borrow.Author.Needs.{needs}
 use Rattle.relay_open.proofs.accept.Statement.{statement}
@@ -12,14 +12,13 @@ await-version-requires : tie.Need-await-version-requires
 await-version-requires c κs = search needs
 
 pay-requires : tie.Need-pay-requires
-pay-requires c κs = c .before .before .before .before .before .before .before .before .pre .0
+pay-requires c κs = search needs
 
 svsc-write-version-requires : tie.Need-svsc-write-version-requires
 svsc-write-version-requires c κs = search needs
 
 cast-replied : tie.Need-cast-replied
-unfolding wellFormed encode digits
-cast-replied c = let n = sent-length (ProtocolVersion 1 0) (c .before .before .before .before .before .before .before .before .before .before .before .before .before .before .before .before .args .reply .now) _ (c .before .before .before .svsc-write-version .ensures) refl (omega (arith, c .before .before .before .before .before .before .before .before .before .before .before .before .before .before .before .before .pre .1)) in omega arith
+cast-replied c = omega (arith, written-short _ _ _ (c .before .before .before .svsc-write-version .ensures))
 
 replied-requires : tie.Need-replied-requires
 replied-requires c κs = search needs

@@ -2,7 +2,7 @@
 use native.Mathlib.Omega.{arith}
 use mathlib.Core.Path.{refl}
 use Rattle.svsc.specs.Messages.{SessionEndNotification, encode, wellFormed}
-use Rattle.answers.proofs.Writes.{sent-length, sent-buffer}
+use Rattle.answers.proofs.Writes.{sent-length, sent-buffer, written-short}
 use Rattle.sessions.proofs.Ways.{ended}
 use borrow.Author.Needs.{needs}
 use Rattle.sessions.proofs.end.Statement.{statement}
@@ -19,8 +19,7 @@ svsc-write-session-end-notification-requires :
 svsc-write-session-end-notification-requires c κs = search needs
 
 cast-relayed : tie.Need-cast-relayed
-unfolding wellFormed encode
-cast-relayed c = let n = sent-length SessionEndNotification (c .before .before .before .before .before .before .before .before .before .before .before .before .before .args .relay .now) _ (c .before .before .before .svsc-write-session-end-notification .ensures) refl (omega (arith, c .before .before .before .before .before .before .before .before .before .before .before .before .before .pre)) in omega arith
+cast-relayed c = omega (arith, written-short _ _ _ (c .before .before .before .svsc-write-session-end-notification .ensures))
 
 relayed-requires : tie.Need-relayed-requires
 relayed-requires c κs = search needs

@@ -1,13 +1,13 @@
 -- `send`: the data, with the type for those who receive it.
-use Prim.Native.Nat.{ℕ, suc, _≤_, _<_}
+use Prim.Native.Nat.{ℕ, _≤_}
 use native.Mathlib.Omega.{arith}
 use mathlib.Core.Path.{_≡_, ap, _∙_}
 use mathlib.Core.List.{List}
 use lib.ListN.{length, drop}
-use Rattle.svsc.specs.Messages.{DataReceive, longestMessage, encode, wellFormed}
+use Rattle.svsc.specs.Messages.{DataReceive, encode, wellFormed}
 use Rattle.svsc.specs.Writing.{write}
-use Rattle.answers.proofs.Writes.{sent-length, sent-buffer}
-use Rattle.sessions.proofs.Ways.{sent-on, data-length, data-whole, below-longest}
+use Rattle.answers.proofs.Writes.{sent-length, sent-buffer, written-short}
+use Rattle.sessions.proofs.Ways.{sent-on, data-length}
 use borrow.Author.Needs.{needs}
 use Rattle.sessions.proofs.send.Statement.{statement}
 use Rattle.sessions.proofs.send.Tie as tie
@@ -22,17 +22,7 @@ svsc-write-data-receive-requires : tie.Need-svsc-write-data-receive-requires
 svsc-write-data-receive-requires c κs = search needs
 
 cast-relayed : tie.Need-cast-relayed
-unfolding wellFormed
-cast-relayed c =
-    let s = c .before .before .before .before .before .before .before .before .before .before in
-    let m = s .args .m .now in
-    let size = data-length m (s .pre .some) in
-    let room : length (encode (DataReceive (drop 1 m))) ≤ length (s .args .relay .now) = omega (arith, s .pre .room) in
-    let wrote : _ ≡ write (DataReceive (drop 1 m)) (s .args .relay .now) = c .before .before .before .svsc-write-data-receive .ensures ∙ ap (λ (l : List ℕ). write (DataReceive l) (s .args .relay .now)) (c .before .before .before .before .before .after .ensures) in
-    let n = sent-length (DataReceive (drop 1 m)) (s .args .relay .now) _ wrote (s .pre .short) room in
-    let short : length (drop 1 m) < longestMessage = below-longest (drop 1 m) (s .pre .short) in
-    let whole : length (encode (DataReceive (drop 1 m))) ≡ suc (length (drop 1 m)) = data-whole (drop 1 m) in
-    omega arith
+cast-relayed c = omega (arith, written-short _ _ _ (c .before .before .before .svsc-write-data-receive .ensures))
 
 relayed-requires : tie.Need-relayed-requires
 relayed-requires c κs = search needs

@@ -1,8 +1,8 @@
 -- `decide`: a way out for each status, and one for the holder.
-use Rattle.establishing.proofs.Ways.{busy, not-found, offline, itself, taken, paired}
+use Rattle.statuses.proofs.Ways.{busy, not-found, offline, itself, taken, paired}
 use borrow.Author.Needs.{needs}
-use Rattle.establishing.proofs.decide.Statement.{statement}
-use Rattle.establishing.proofs.decide.Tie as tie
+use Rattle.statuses.proofs.decide.Statement.{statement}
+use Rattle.statuses.proofs.decide.Tie as tie
 
 has-session-requires : tie.Need-has-session-requires
 has-session-requires c κs = search needs

@@ -1,7 +1,7 @@
 -- What the code's decisions mean, in the rules' terms.
 use Rattle.rules.specs.Sessions as rules
-use Rattle.establishing.specs.declared.EstablishDecision.{EstablishDecision}
-use Rattle.establishing.specs.declared.EstablishDecision.the-variants as decision
+use Rattle.statuses.specs.declared.EstablishDecision.{EstablishDecision}
+use Rattle.statuses.specs.declared.EstablishDecision.the-variants as decision
 
 abbrev pub decidedAs : EstablishDecision → rules.EstablishDecision
 decidedAs (decision.RefusedWith status) = rules.refusedWith status
