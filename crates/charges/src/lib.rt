@@ -1,4 +1,4 @@
-// Paying for a call.
+// Paying for a call. That its partner has as much is what check 9 has shown, and no answer would serve where they fail.
 ghost use mathlib.Core.Path.{_≡_};
 ghost use mathlib.Core.List.{List};
 ghost use Prim.Native.Nat.{ℕ, _≤_};
@@ -10,7 +10,7 @@ ghost use Rattle.rules.specs.Calls.{message};
 ghost use Rattle.rules.specs.Charges.{cost, charge};
 ghost use Rattle.checks.specs.Passed.{Payable};
 
-// Takes the cost from what the connection's partner has, and sets the clock. That it has as much is what check 9 has shown.
+// Takes the cost from what the connection's partner has, and sets the clock.
 pub fn pay(allowances: &mut [u8], time: u64, c: u8, cost: u64)
     requires { ⌜ Payable (now allowances) time c cost ⌝ }
     ensures { λ _. ⌜ now (allowances .exit)

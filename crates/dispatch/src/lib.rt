@@ -1,4 +1,5 @@
-// A message, by its type.
+// A message, by its type. Sizes, numbers in range and the room in the buffers are what the checks have shown, and no answer would serve
+// where they fail.
 ghost use mathlib.Core.Path.{_≡_};
 ghost use Rattle.svsc.specs.Messages.{decode};
 ghost use Rattle.rules.specs.Tables.{lent};

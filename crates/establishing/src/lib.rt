@@ -1,4 +1,5 @@
-// Sessions established: decided first, then written. What a function requires is what the checks have shown.
+// Sessions established: decided first, then written. Sizes, numbers in range and the room in the buffers are what the checks have shown,
+// and no answer would serve where they fail.
 ghost use mathlib.Core.Path.{_≡_};
 ghost use mathlib.Core.List.{List};
 ghost use Prim.Native.Nat.{ℕ, _≤_, _<_};

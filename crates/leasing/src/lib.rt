@@ -1,4 +1,5 @@
-// Leases: requested, and extended.
+// Leases: requested, and extended. Sizes, numbers in range and the room in the buffer are what the checks have shown, and no answer would
+// serve where they fail.
 ghost use mathlib.Core.Path.{_≡_};
 ghost use mathlib.Core.List.{List};
 ghost use Prim.Native.Nat.{ℕ, _≤_, _<_};

@@ -1,4 +1,4 @@
-// Closing a connection.
+// Closing a connection: refused, or accepted.
 ghost use mathlib.Core.Path.{_≡_};
 ghost use mathlib.Core.List.{[]};
 ghost use Prim.Native.Nat.{_≤_, _<_};

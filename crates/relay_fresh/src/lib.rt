@@ -1,4 +1,4 @@
-// Making a fresh relay.
+// Making a fresh relay: refused, or each table written.
 ghost use mathlib.Core.Path.{_≡_};
 ghost use mathlib.Core.List.{[]};
 ghost use Rattle.rules.specs.Tables.{lent};

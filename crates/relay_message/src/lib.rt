@@ -1,4 +1,4 @@
-// A message from a connection.
+// A message from a connection: refused, or carried out and charged.
 ghost use mathlib.Core.Path.{_≡_};
 ghost use Rattle.rules.specs.Tables.{lent};
 ghost use Rattle.rules.specs.Calls.{message};

@@ -1,4 +1,4 @@
-// Opening a connection.
+// Opening a connection: refused, or accepted.
 ghost use mathlib.Core.Path.{_≡_};
 ghost use mathlib.Core.List.{List, []};
 ghost use Prim.Native.Nat.{ℕ, _≤_};

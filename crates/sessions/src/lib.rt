@@ -1,4 +1,5 @@
-// The version answer, the end of a session, and data sent in one.
+// The version answer, the end of a session, and data sent in one. The room in the buffers and the length of data are what the checks have
+// shown, and no answer would serve where they fail.
 ghost use mathlib.Core.Path.{_≡_};
 ghost use mathlib.Core.List.{List};
 ghost use Prim.Native.Nat.{ℕ, _≤_};

@@ -1,4 +1,5 @@
 // Whether a session may be established: the status that refuses it, or the holder that it is with. Only reads.
+// The size of the lease table and the connection in range are what the checks have shown, and no answer would serve where they fail.
 ghost use mathlib.Core.Path.{_≡_};
 ghost use mathlib.Core.Bool.{_&&_};
 ghost use Prim.Native.Nat.{_<_};
