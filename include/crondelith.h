@@ -1,6 +1,6 @@
 /* The relay's engine: making a fresh relay, opening a connection, a message from one, closing one.
  *
- * Link librelay.a, which `rt staticlib relay` writes. Each function is total: any bytes, any numbers and any lengths get an answer.
+ * Link libcrondelith.a, which host/build-archives builds. Each function is total: any bytes, any numbers and any lengths get an answer.
  * The three tables are 4,096, 5,120 and 144 bytes; who calls keeps them between calls and writes nothing to them. Buffers must not
  * overlap. A slice is a pointer and a length; an empty one may have any pointer.
  */

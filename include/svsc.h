@@ -1,7 +1,6 @@
 /* The messages of the ScreenView server protocol (SVSC): a reader and a writer for each form.
  *
- * Link libsvsc_boundary.a for the reader, and for the writers libsvsc_version_writers.a (types 0 and 1),
- * libsvsc_lease_writers.a (2 to 5) and libsvsc_session_writers.a (6 to 13): `rt staticlib NAME` writes libNAME.a.
+ * Link libsvsc.a, which host/build-archives builds.
  * Each function is total: any bytes and any numbers get an answer.
  * Numbers in messages are most significant byte first. Buffers must not overlap.
  */

@@ -1,5 +1,6 @@
-/* Makes calls of each function of include/crondelith.h, as a C program would, and checks what comes back. How the
- * functions behave is compared in Rust (host/compare); this shows that the header and the archive fit together. */
+/* A scene over the compiled engine, through include/crondelith.h as a C program would call it: two connections of one partner lease
+ * an id, hold a session, use up their allowance and leave, and each refusal from 1 to 9 comes. What must come back was worked out
+ * from the scope document by hand. Every other case is compared in Rust (host/compare). */
 #include <string.h>
 
 #include "check.h"
@@ -12,8 +13,17 @@ _Static_assert(offsetof(crondelith_answer, destination) == 12, "crondelith_answe
 _Static_assert(offsetof(crondelith_answer, disconnect) == 16, "crondelith_answer");
 
 static uint8_t connections[CRONDELITH_CONNECTIONS], leases[CRONDELITH_LEASES], allowances[CRONDELITH_ALLOWANCES];
-static uint8_t reply[CRONDELITH_BUFFER], relay[CRONDELITH_BUFFER];
-static uint8_t random_bytes[CRONDELITH_RANDOM];
+static uint8_t reply[CRONDELITH_BUFFER], relay[65534];
+static uint8_t longest[65534];
+
+/* To a session its id (s), the caller's peer id (i) and key (k), the holder's peer id (p) and key (q); to a lease the first 24 bytes
+ * are the cookie, and the next four the first candidate, 0x04000001, which is id 1. */
+#define S "ssssssssssssssss"
+#define I "iiiiiiii\4\0\0\1iiii"
+#define K "kkkkkkkkkkkkkkkk"
+#define P "pppppppppppppppp"
+#define Q "qqqqqqqqqqqqqqqq"
+static const uint8_t random_bytes[] = S I K P Q; /* and a 0 behind them */
 
 #define TABLES connections, sizeof connections, leases, sizeof leases, allowances, sizeof allowances
 
@@ -25,60 +35,91 @@ static void check_answer(crondelith_answer answer, uint32_t number, uint32_t in_
 }
 
 static crondelith_answer send(uint64_t now, uint64_t connection, const void *message, size_t length) {
-    return crondelith_message(TABLES, now, connection, message, length, random_bytes, sizeof random_bytes, reply, sizeof reply,
+    return crondelith_message(TABLES, now, connection, message, length, random_bytes, CRONDELITH_RANDOM, reply, sizeof reply,
                               relay, sizeof relay);
 }
 
-static void open_connection(uint64_t now, uint64_t connection) {
+static void check_open(uint64_t now, uint64_t connection) {
     check_answer(crondelith_open(TABLES, now, connection, reply, sizeof reply), 0, 13, 0, CRONDELITH_NOBODY, 0);
     CHECK(memcmp(reply, "\0SVSC 001.000", 13) == 0);
-    check_answer(send(now, connection, "\1\1", 2), 0, 0, 0, CRONDELITH_NOBODY, 0);
+}
+
+static void check_refused(crondelith_answer answer, uint32_t number) {
+    check_answer(answer, number, 0, 0, CRONDELITH_NOBODY, 0);
+}
+
+/* Connection 8 asks for id 1, which connection 9 has. */
+static void check_establish(uint64_t now) {
+    check_answer(send(now, 8, "\6\0\0\0\1", 5), 0, 54, 49, 9, 0);
+    CHECK(memcmp(reply, "\7\0\0\0\1\0" S I K, 54) == 0);
+    CHECK(memcmp(relay, "\10" S P Q, 49) == 0);
 }
 
 static void check_fresh(void) {
+    check_refused(crondelith_fresh(connections, sizeof connections - 1, leases, sizeof leases, allowances, sizeof allowances, 100), 1);
+    check_refused(crondelith_fresh(TABLES, UINT64_C(1) << 40), 2);
     check_answer(crondelith_fresh(TABLES, 100), 0, 0, 0, CRONDELITH_NOBODY, 0);
     CHECK(connections[0] == 0 && connections[1] == 255 && leases[12] == 255);
     CHECK(memcmp(allowances, "\0\0\0\0\0\4\0\0\0\0\0\0\0\0\0\144", 16) == 0);
 }
 
-/* Connection 9 leases id 1; connection 8 makes a session with it, sends it data and ends the session. */
-static void check_messages(void) {
-    random_bytes[24] = 4; /* the first candidate is 0x04000001, which is id 1 */
-    random_bytes[27] = 1;
-    check_answer(send(101, 9, "\2\0", 2), 0, 38, 0, CRONDELITH_NOBODY, 0);
-    CHECK(memcmp(reply, "\3\1\0\0\0\1", 6) == 0);
-    check_answer(send(101, 8, "\6\0\0\0\1", 5), 0, 54, 49, 9, 0);
-    CHECK(memcmp(reply, "\7\0\0\0\1\0", 6) == 0 && relay[0] == 8);
-    check_answer(send(101, 8, "\13data", 5), 0, 0, 5, 9, 0);
-    CHECK(memcmp(relay, "\14data", 5) == 0);
-    check_answer(send(102, 9, "\11", 1), 0, 0, 1, 8, 0);
+/* Connections 8 and 9, both of partner 1. */
+static void check_opens(void) {
+    check_refused(crondelith_open(TABLES, 100, UINT64_MAX, reply, sizeof reply), 3);
+    check_refused(send(100, 8, "\15", 1), 4);
+    check_refused(crondelith_open(TABLES, 100, 8, reply, sizeof reply - 1), 5);
+    check_open(100, 8);
+    check_open(100, 9);
+    check_refused(send(100, 8, NULL, 0), 6);
+    check_refused(send(100, 8, "\2\0", 2), 7);
+    check_answer(send(101, 8, "\1\1", 2), 0, 0, 0, CRONDELITH_NOBODY, 0);
+    check_answer(send(101, 9, "\1\1", 2), 0, 0, 0, CRONDELITH_NOBODY, 0);
+}
+
+/* Nobody has id 5 (status 1). Connection 9 leases id 1 until 3702, 8 establishes a session with it, and data goes both ways. */
+static void check_session(void) {
+    check_refused(send(101, 8, "\13hi", 3), 8);
+    check_answer(send(101, 8, "\6\0\0\0\5", 5), 0, 6, 0, CRONDELITH_NOBODY, 0);
+    CHECK(memcmp(reply, "\7\0\0\0\5\1", 6) == 0);
+    check_answer(send(102, 9, "\2\0", 2), 0, 38, 0, CRONDELITH_NOBODY, 0);
+    CHECK(memcmp(reply, "\3\1\0\0\0\1" S "iiiiiiii\0\0\0\0\0\0\16\166", 38) == 0);
+    check_establish(103);
+    check_answer(send(104, 8, "\13hi", 3), 0, 0, 3, 9, 0);
+    CHECK(memcmp(relay, "\14hi", 3) == 0);
+    check_answer(send(104, 9, "\13ho", 3), 0, 0, 3, 8, 0);
+    CHECK(memcmp(relay, "\14ho", 3) == 0);
+}
+
+/* The level is full at 110, and the longest send costs 65,566: three leave 65,446. Partner 2 has its own allowance. */
+static void check_allowance(void) {
+    memset(longest, 11, sizeof longest);
+    check_answer(send(110, 8, longest, sizeof longest), 0, 0, 65534, 9, 0);
+    check_answer(send(110, 9, longest, sizeof longest), 0, 0, 65534, 8, 0);
+    check_answer(send(110, 8, longest, sizeof longest), 0, 0, 65534, 9, 0);
+    CHECK(relay[0] == 12 && memcmp(relay + 1, longest + 1, sizeof longest - 1) == 0);
+    check_refused(send(110, 9, longest, sizeof longest), 9);
+    check_open(110, 16);
+    check_answer(send(110, 16, "\1\0", 2), 0, 0, 0, CRONDELITH_NOBODY, 1);
+}
+
+/* Connection 8 ends the session, both meet again, and 9 closes in session, then 8. */
+static void check_leave(void) {
+    check_answer(send(110, 8, "\11", 1), 0, 0, 1, 9, 0);
     CHECK(relay[0] == 10);
-    check_answer(send(102, 9, "\11", 1), 8, 0, 0, CRONDELITH_NOBODY, 0);
-}
-
-static void check_close(void) {
-    check_answer(crondelith_close(TABLES, 103, 9, relay, sizeof relay), 0, 0, 0, CRONDELITH_NOBODY, 0);
-    check_answer(crondelith_open(TABLES, 103, 9, reply, sizeof reply), 0, 13, 0, CRONDELITH_NOBODY, 0);
-    check_answer(send(103, 9, "\1\0", 2), 0, 0, 0, CRONDELITH_NOBODY, 1);
-}
-
-static void check_refusals(void) {
-    check_answer(crondelith_fresh(connections, 0, leases, 0, allowances, 0, 0), 1, 0, 0, CRONDELITH_NOBODY, 0);
-    check_answer(crondelith_fresh(TABLES, UINT64_C(1) << 40), 2, 0, 0, CRONDELITH_NOBODY, 0);
-    check_answer(crondelith_open(TABLES, 103, UINT64_MAX, reply, sizeof reply), 3, 0, 0, CRONDELITH_NOBODY, 0);
-    check_answer(crondelith_close(TABLES, 103, 9, relay, sizeof relay), 4, 0, 0, CRONDELITH_NOBODY, 0);
-    check_answer(crondelith_open(TABLES, 103, 9, reply, sizeof reply - 1), 5, 0, 0, CRONDELITH_NOBODY, 0);
-    check_answer(send(103, 8, NULL, 0), 6, 0, 0, CRONDELITH_NOBODY, 0);
-    check_answer(send(103, 8, "\1\1", 2), 7, 0, 0, CRONDELITH_NOBODY, 0);
+    check_establish(111);
+    relay[0] = 0;
+    check_answer(crondelith_close(TABLES, 112, 9, relay, CRONDELITH_BUFFER), 0, 0, 1, 8, 0);
+    CHECK(relay[0] == 10);
+    check_answer(crondelith_close(TABLES, 112, 8, relay, CRONDELITH_BUFFER), 0, 0, 0, CRONDELITH_NOBODY, 0);
+    check_refused(crondelith_close(TABLES, 112, 8, relay, CRONDELITH_BUFFER), 4);
 }
 
 int main(void) {
     check_fresh();
-    open_connection(100, 8);
-    open_connection(100, 9);
-    check_messages();
-    check_close();
-    check_refusals();
+    check_opens();
+    check_session();
+    check_allowance();
+    check_leave();
     printf("crondelith_check: %d failed\n", failures);
     return failures != 0;
 }

@@ -5,8 +5,7 @@ use std::env;
 use std::path::{Path, PathBuf};
 
 const FOLDER_VARIABLE: &str = "CRONDELITH_LIB";
-const ARCHIVES: [&str; 5] =
-    ["svsc_boundary", "svsc_version_writers", "svsc_lease_writers", "svsc_session_writers", "relay"];
+const ARCHIVES: [&str; 2] = ["svsc", "crondelith"];
 
 fn main() {
     println!("cargo::rerun-if-env-changed={FOLDER_VARIABLE}");

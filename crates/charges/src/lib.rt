@@ -1,0 +1,39 @@
+// Paying for a call. That its partner has as much is what check 9 has shown, and no answer would serve where they fail.
+ghost use mathlib.Core.Path.{_≡_};
+ghost use mathlib.Core.List.{List};
+ghost use Prim.Native.Nat.{ℕ, _≤_};
+ghost use lib.ListN.{length};
+ghost use Rattle.svsc.specs.Messages.{longestMessage};
+ghost use Rattle.allowance.specs.Bucket.{spend};
+ghost use Rattle.rules.specs.Tables.{partnerOf, bucketOf, setBucket, setClock};
+ghost use Rattle.rules.specs.Calls.{message};
+ghost use Rattle.rules.specs.Charges.{cost, charge};
+ghost use Rattle.checks.specs.Passed.{Payable};
+
+// Takes the cost from what the connection's partner has, and sets the clock.
+pub fn pay(allowances: &mut [u8], time: u64, c: u8, cost: u64)
+    requires { ⌜ Payable (now allowances) time c cost ⌝ }
+    ensures { λ _. ⌜ now (allowances .exit)
+        ≡ setClock (setBucket (now (allowances .entry)) (partnerOf c) (spend (bucketOf (now (allowances .entry))
+        (partnerOf c)) time cost)) time ⌝ }
+{
+    let partner = c as usize / rules::CONNECTIONS_PER_PARTNER;
+    let level = tables::allowances::level(allowances, partner, time);
+    tables::allowances::store(allowances, partner, level - cost, time);
+    tables::allowances::set_clock(allowances, time);
+}
+
+// Charges the message, unless it ends a session, and sets the clock.
+pub fn settle(allowances: &mut [u8], time: u64, c: u8, m: &[u8])
+    requires { ⌜ (length (now m) ≤ longestMessage) × ((random reply relay : List ℕ) → Payable (now allowances) time c (cost
+        (message time c (now m) random reply relay))) ⌝ }
+    ensures { λ _. ⌜ ((random reply relay : List ℕ) → now (allowances .exit)
+        ≡ setClock (charge (now (allowances .entry)) (message time c (now (m .entry)) random reply relay)
+        (cost (message time c (now (m .entry)) random reply relay))) time) ⌝ }
+{
+    if octets::byte(m, 0) == 9 {
+        tables::allowances::set_clock(allowances, time);
+    } else {
+        pay(allowances, time, c, checks::message::cost(m));
+    }
+}

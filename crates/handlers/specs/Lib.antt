@@ -1,3 +1,0 @@
-pub mod Applied
-pub mod Asked
-pub mod Decisions

@@ -1,0 +1,88 @@
+-- The ways out of the functions that give and extend leases, over plain values. Assumes nothing.
+use Rattle.leases.specs.declared.LeaseDecision.{LeaseDecision as Decided}
+use Prim.Native.Nat.{ℕ, _^_, _≤_, _<_}
+use mathlib.Core.Path.{_≡_, refl}
+use mathlib.Core.Bool.{true}
+use mathlib.Core.List.{List, [], _∷_}
+use types.Run.{OneOf, miss}
+use denote.Enum.Declared.{tagOf}
+use native.Mathlib.Omega.{arith}
+use lib.ListN.{length, length-append}
+use borrow.Author.Tests.{lt-ltb, le-ltb}
+use Rattle.octets.specs.Octets.{part, put, isBytes}
+use Rattle.octets.proofs.Numbers.{length-bigEndian}
+use Rattle.svsc.specs.Messages.{LeaseRefused, LeaseGranted, ExtensionRefused, ExtensionGranted, encode, wellFormed}
+use Rattle.rules.specs.Sizes.{timeLimit}
+use Rattle.rules.specs.Tables.{lent, partnerOf, setExpiry}
+use Rattle.rules.specs.Searches.{endRow}
+use Rattle.rules.specs.Leases.{granted, randomCookie, leaseEnd, grant, rowToExtend}
+use Rattle.rules.specs.Plans.{planLease, planExtension, refuseLease}
+use Rattle.leases.proofs.LeaseDecision.{the-type}
+use Rattle.leases.specs.Leases.{meaning}
+use Rattle.leases.specs.declared.LeaseDecision.the-variants as decided
+use Rattle.answers.specs.declared.Answer.{Answer}
+use Rattle.answers.specs.Applied.{handled, applied, coded, replied}
+
+-- ---- ranges and lengths
+
+pub until-below : (al : List ℕ) (time : ℕ) → time < timeLimit → leaseEnd al time < 2 ^ 64
+unfolding leaseEnd
+until-below al time h = omega arith
+
+pub lease-ranges : (id : ℕ) (cookie : List ℕ) (until : ℕ) → id < 2 ^ 32 → isBytes 24 cookie ≡ true → until < 2 ^ 64 → wellFormed (LeaseGranted id cookie until) ≡ true
+unfolding wellFormed
+lease-ranges id cookie until hi hc hu = rw (lt-ltb id (2 ^ 32) hi, lt-ltb until (2 ^ 64) hu, hc)
+
+pub lease-length : (id : ℕ) (cookie : List ℕ) (until : ℕ) → length cookie ≡ 24 → length (encode (LeaseGranted id cookie until)) ≡ 38
+unfolding encode
+lease-length id cookie until h = simp (length-append, length-bigEndian, h)
+
+pub extension-ranges : (until : ℕ) → until < 2 ^ 64 → wellFormed (ExtensionGranted until) ≡ true
+unfolding wellFormed
+extension-ranges until h = lt-ltb until (2 ^ 64) h
+
+pub extension-length : (until : ℕ) → length (encode (ExtensionGranted until)) ≡ 10
+unfolding encode
+extension-length until = simp length-bigEndian
+
+-- ---- the ways out
+
+module _ (cs ls al reply relay : List ℕ) (time c : ℕ) where
+  pub lease-given : (row id : ℕ) (random : List ℕ) (until n : ℕ) (cookie ls′ reply′ : List ℕ) (r : Answer) → until ≡ leaseEnd al time → cookie ≡ part random 0 24
+      → ls′ ≡ grant ls row until id cookie c → n ≡ length (encode (LeaseGranted id cookie until)) → reply′ ≡ put reply 0 (encode (LeaseGranted id cookie until))
+      → r ≡ coded (replied n)
+      → handled r cs ls′ reply′ relay ≡ applied (planLease (lent cs ls al) time c (granted row id (randomCookie random))) reply relay
+  unfolding applied planLease put
+  lease-given row id random until n cookie ls′ reply′ r hu hc hl hn hr a = rw (a, hr, hn, hl, hc, hu)
+
+  pub lease-refused : (n : ℕ) (reply′ : List ℕ) (r : Answer) → n ≡ length (encode LeaseRefused) → reply′ ≡ put reply 0 (encode LeaseRefused)
+      → r ≡ coded (replied n) → handled r cs ls reply′ relay ≡ applied (refuseLease (lent cs ls al)) reply relay
+  unfolding applied put
+  lease-refused n reply′ r hn hr a = rw (a, hr, hn)
+
+  pub extended : (row until n : ℕ) (cookie ls′ reply′ : List ℕ) (r : Answer) → row ≡ rowToExtend ls time c cookie → row < endRow (partnerOf c) → until ≡ leaseEnd al time
+      → ls′ ≡ setExpiry ls row until → n ≡ length (encode (ExtensionGranted until)) → reply′ ≡ put reply 0 (encode (ExtensionGranted until)) → r ≡ coded (replied n)
+      → handled r cs ls′ reply′ relay ≡ applied (planExtension (lent cs ls al) time c cookie) reply relay
+  unfolding applied planExtension put
+  extended row until n cookie ls′ reply′ r e h hu hl hn hr a = rw (← e, lt-ltb row (endRow (partnerOf c)) h, a, hr, hn, hl, hu)
+
+  pub not-extended : (row n : ℕ) (cookie reply′ : List ℕ) (r : Answer) → row ≡ rowToExtend ls time c cookie → endRow (partnerOf c) ≤ row
+      → n ≡ length (encode ExtensionRefused) → reply′ ≡ put reply 0 (encode ExtensionRefused) → r ≡ coded (replied n)
+      → handled r cs ls reply′ relay ≡ applied (planExtension (lent cs ls al) time c cookie) reply relay
+  unfolding applied planExtension put
+  not-extended row n cookie reply′ r e h hn hr a = rw (← e, le-ltb row (endRow (partnerOf c)) h, a, hr, hn)
+
+-- ---- decisions
+
+-- the cases that refuse
+abbrev pub refusals : List ℕ
+refusals = 0 ∷ 1 ∷ 2 ∷ 3 ∷ []
+
+pub refusing : (cs ls al : List ℕ) (time c : ℕ) (d : Decided) (random : List ℕ) → OneOf refusals (tagOf the-type d)
+    → refuseLease (lent cs ls al) ≡ planLease (lent cs ls al) time c (meaning d random)
+unfolding planLease
+refusing cs ls al time c decided.HoldsLease random h = refl
+refusing cs ls al time c decided.NoSpareRow random h = refl
+refusing cs ls al time c decided.CookieInUse random h = refl
+refusing cs ls al time c decided.NoFreeId random h = refl
+refusing cs ls al time c (decided.Granted row id) random h = absurd (miss refusals 4 tt h)

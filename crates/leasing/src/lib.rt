@@ -1,0 +1,103 @@
+// Leases: requested, and extended. Sizes, numbers in range and the room in the buffer are what the checks have shown, and no answer would
+// serve where they fail.
+ghost use mathlib.Core.Path.{_≡_};
+ghost use mathlib.Core.List.{List};
+ghost use Prim.Native.Nat.{ℕ, _≤_, _<_};
+ghost use lib.ListN.{length};
+ghost use Rattle.octets.specs.Octets.{part};
+ghost use Rattle.rules.specs.Tables.{lent};
+ghost use Rattle.rules.specs.Sizes.{rowCount, randomBytes, leastBuffer};
+ghost use Rattle.rules.specs.Leases.{granted, randomCookie, decideLease};
+ghost use Rattle.rules.specs.Plans.{planLease, planExtension, refuseLease};
+ghost use Rattle.answers.specs.Applied.{handled, applied};
+ghost use Rattle.leasing.specs.Asked.{Leasable};
+use answers::Answer;
+use leases::LeaseDecision;
+
+// Writes the row that was decided on, and answers with it.
+fn grant(
+    leases: &mut [u8],
+    allowances: &[u8],
+    time: u64,
+    c: u8,
+    random: &[u8],
+    reply: &mut [u8],
+    row: usize,
+    id: u32,
+) -> Answer
+    requires { ⌜ (Leasable (now leases) time c (now reply)) × (length (now random) ≡ randomBytes) × (row < rowCount) ⌝ }
+    ensures { λ r. ⌜ ((cs relay : List ℕ) → handled r cs (now (leases .exit)) (now (reply .exit)) relay
+        ≡ applied (planLease (lent cs (now (leases .entry)) (now (allowances .entry))) time c
+        (granted row id (randomCookie (now (random .entry))))) (now (reply .entry)) relay) ⌝ }
+{
+    let until = leases::lease_end(allowances, time);
+    let cookie = octets::part(random, 0, svsc::COOKIE);
+    leases::grant(leases, row, until, id, cookie, c);
+    let sent = svsc_lease_writers::svsc_write_lease_granted(reply, id, cookie, until);
+    answers::replied(sent.length as u32)
+}
+
+fn refuse(reply: &mut [u8]) -> Answer
+    requires { ⌜ leastBuffer ≤ length (now reply) ⌝ }
+    ensures { λ r. ⌜ ((cs ls al relay : List ℕ) → handled r cs ls (now (reply .exit)) relay ≡ applied (refuseLease (lent cs ls al))
+        (now (reply .entry)) relay) ⌝ }
+{
+    let sent = svsc_lease_writers::svsc_write_lease_refused(reply);
+    answers::replied(sent.length as u32)
+}
+
+// Type 2: decided first, then written.
+pub fn lease(
+    leases: &mut [u8],
+    allowances: &[u8],
+    time: u64,
+    c: u8,
+    random: &[u8],
+    reply: &mut [u8],
+) -> Answer
+    requires { ⌜ (Leasable (now leases) time c (now reply)) × (length (now random) ≡ randomBytes) ⌝ }
+    ensures { λ r. ⌜ ((cs relay : List ℕ) → handled r cs (now (leases .exit)) (now (reply .exit)) relay
+        ≡ applied (planLease (lent cs (now (leases .entry)) (now (allowances .entry))) time c
+        (decideLease (now (leases .entry)) time c (now (random .entry)))) (now (reply .entry)) relay) ⌝ }
+{
+    let decision = leases::decide_lease(leases, time, c, random);
+    match decision {
+        LeaseDecision::Granted { row, id } => grant(
+            leases,
+            allowances,
+            time,
+            c,
+            random,
+            reply,
+            row,
+            id,
+        ),
+        _ => refuse(reply),
+    }
+}
+
+// Type 4.
+pub fn extend(
+    leases: &mut [u8],
+    allowances: &[u8],
+    time: u64,
+    c: u8,
+    m: &[u8],
+    reply: &mut [u8],
+) -> Answer
+    requires { ⌜ Leasable (now leases) time c (now reply) ⌝ }
+    ensures { λ r. ⌜ ((cs relay : List ℕ) → handled r cs (now (leases .exit)) (now (reply .exit)) relay
+        ≡ applied (planExtension (lent cs (now (leases .entry)) (now (allowances .entry))) time c (part (now (m .entry)) 1 24))
+        (now (reply .entry)) relay) ⌝ }
+{
+    let cookie = octets::part(m, 1, svsc::COOKIE);
+    let row = leases::row_to_extend(leases, time, c, cookie);
+    if row < leases::end_row(leases::partner_of(c)) {
+        let until = leases::lease_end(allowances, time);
+        leases::extend(leases, row, until);
+        let sent = svsc_lease_writers::svsc_write_extension_granted(reply, until);
+        return answers::replied(sent.length as u32);
+    }
+    let sent = svsc_lease_writers::svsc_write_extension_refused(reply);
+    answers::replied(sent.length as u32)
+}

@@ -1,0 +1,61 @@
+// Closing a connection: refused, or accepted.
+ghost use mathlib.Core.Path.{_≡_};
+ghost use mathlib.Core.List.{[]};
+ghost use Prim.Native.Nat.{_≤_, _<_};
+ghost use lib.ListN.{length};
+ghost use Rattle.rules.specs.Tables.{lent};
+ghost use Rattle.rules.specs.Sizes.{connectionCount, leastBuffer};
+ghost use Rattle.rules.specs.Calls.{closing};
+ghost use Rattle.rules.specs.Plans.{planClose};
+ghost use Rattle.rules.specs.Step.{step, done};
+ghost use Rattle.answers.specs.Results.{result, shown};
+use answers::Answer;
+
+// The work of a close that passes its checks: its session, the rows that name it, its record and the clock.
+fn accept(
+    connections: &mut [u8],
+    leases: &mut [u8],
+    allowances: &mut [u8],
+    time: u64,
+    c: u8,
+    relay: &mut [u8],
+) -> Answer
+    requires { ⌜ (c < connectionCount) × (leastBuffer ≤ length (now relay)) ⌝ }
+    ensures { λ r. ⌜ result r (lent (now (connections .exit)) (now (leases .exit)) (now (allowances .exit))) [] (now (relay .exit))
+        ≡ shown (done (lent (now (connections .entry)) (now (leases .entry)) (now (allowances .entry))) (closing time c
+        (now (relay .entry)))
+        (planClose (lent (now (connections .entry)) (now (leases .entry)) (now (allowances .entry))) c)) ⌝ }
+{
+    let answer = sessions::end_if_any(connections, c, relay);
+    leases::release(leases, c);
+    tables::connections::clear(connections, c);
+    tables::allowances::set_clock(allowances, time);
+    answer
+}
+
+#[no_mangle]
+pub extern "C" fn crondelith_close(
+    connections: &mut [u8],
+    leases: &mut [u8],
+    allowances: &mut [u8],
+    time: u64,
+    connection: u64,
+    relay: &mut [u8],
+) -> Answer
+    ensures { λ r. ⌜ result r (lent (now (connections .exit)) (now (leases .exit)) (now (allowances .exit))) [] (now (relay .exit))
+        ≡ shown (step (lent (now (connections .entry)) (now (leases .entry)) (now (allowances .entry))) (closing time connection
+        (now (relay .entry)))) ⌝ }
+{
+    let refusal = checks::close::refusal(connections, leases, allowances, time, connection, relay);
+    if refusal != 0 {
+        return answers::sent_nothing(refusal);
+    }
+    accept(
+        connections,
+        leases,
+        allowances,
+        time,
+        connection as u8,
+        relay,
+    )
+}

@@ -1,0 +1,54 @@
+// A message from a connection: refused, or carried out and charged.
+ghost use mathlib.Core.Path.{_≡_};
+ghost use Rattle.rules.specs.Tables.{lent};
+ghost use Rattle.rules.specs.Calls.{message};
+ghost use Rattle.rules.specs.Step.{step};
+ghost use Rattle.answers.specs.Results.{result, shown};
+use answers::Answer;
+
+#[no_mangle]
+pub extern "C" fn crondelith_message(
+    connections: &mut [u8],
+    leases: &mut [u8],
+    allowances: &mut [u8],
+    time: u64,
+    connection: u64,
+    m: &[u8],
+    random: &[u8],
+    reply: &mut [u8],
+    relay: &mut [u8],
+) -> Answer
+    ensures { λ r. ⌜ result r (lent (now (connections .exit)) (now (leases .exit)) (now (allowances .exit))) (now (reply .exit))
+        (now (relay .exit))
+        ≡ shown (step (lent (now (connections .entry)) (now (leases .entry)) (now (allowances .entry)))
+        (message time connection (now (m .entry)) (now (random .entry)) (now (reply .entry)) (now (relay .entry)))) ⌝ }
+{
+    let refusal = checks::message::refusal(
+        connections,
+        leases,
+        allowances,
+        time,
+        connection,
+        m,
+        random,
+        reply,
+        relay,
+    );
+    if refusal != 0 {
+        return answers::sent_nothing(refusal);
+    }
+    let c = connection as u8;
+    let answer = dispatch::handle(
+        connections,
+        leases,
+        allowances,
+        time,
+        c,
+        m,
+        random,
+        reply,
+        relay,
+    );
+    charges::settle(allowances, time, c, m);
+    answer
+}

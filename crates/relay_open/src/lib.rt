@@ -1,0 +1,52 @@
+// Opening a connection: refused, or accepted.
+ghost use mathlib.Core.Path.{_≡_};
+ghost use mathlib.Core.List.{List, []};
+ghost use Prim.Native.Nat.{ℕ, _≤_};
+ghost use lib.ListN.{length};
+ghost use Rattle.rules.specs.Tables.{lent};
+ghost use Rattle.rules.specs.Sizes.{callCost, leastBuffer};
+ghost use Rattle.rules.specs.Calls.{opening};
+ghost use Rattle.rules.specs.Plans.{planOpen};
+ghost use Rattle.rules.specs.Step.{step, done};
+ghost use Rattle.answers.specs.Results.{result, shown};
+ghost use Rattle.checks.specs.Passed.{Payable};
+use answers::Answer;
+
+// The work of an open that passes its checks.
+fn accept(
+    connections: &mut [u8],
+    allowances: &mut [u8],
+    time: u64,
+    c: u8,
+    reply: &mut [u8],
+) -> Answer
+    requires { ⌜ (Payable (now allowances) time c callCost) × (leastBuffer ≤ length (now reply)) ⌝ }
+    ensures { λ r. ⌜ ((ls : List ℕ) → result r (lent (now (connections .exit)) ls (now (allowances .exit))) (now (reply .exit)) []
+        ≡ shown (done (lent (now (connections .entry)) ls (now (allowances .entry))) (opening time c (now (reply .entry)))
+        (planOpen (lent (now (connections .entry)) ls (now (allowances .entry))) c))) ⌝ }
+{
+    tables::connections::await_version(connections, c);
+    charges::pay(allowances, time, c, rules::CALL_COST);
+    let sent = svsc_version_writers::svsc_write_version(reply, 1, 0);
+    answers::replied(sent.length as u32)
+}
+
+#[no_mangle]
+pub extern "C" fn crondelith_open(
+    connections: &mut [u8],
+    leases: &mut [u8],
+    allowances: &mut [u8],
+    time: u64,
+    connection: u64,
+    reply: &mut [u8],
+) -> Answer
+    ensures { λ r. ⌜ result r (lent (now (connections .exit)) (now (leases .exit)) (now (allowances .exit))) (now (reply .exit)) []
+        ≡ shown (step (lent (now (connections .entry)) (now (leases .entry)) (now (allowances .entry))) (opening time connection
+        (now (reply .entry)))) ⌝ }
+{
+    let refusal = checks::open::refusal(connections, leases, allowances, time, connection, reply);
+    if refusal != 0 {
+        return answers::sent_nothing(refusal);
+    }
+    accept(connections, allowances, time, connection as u8, reply)
+}
