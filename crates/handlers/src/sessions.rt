@@ -17,10 +17,10 @@ pub fn answer_version(connections: &mut [u8], c: u8, ok: u8) -> Answer
         ≡ applied (planVersionAnswer (lent (now (connections .entry)) ls al) c ok) reply relay) ⌝ }
 {
     if ok == 1 {
-        tables::connections::set_open(connections, c);
+        connection_table::set_open(connections, c);
         return crate::answers::sent_nothing(0);
     }
-    tables::connections::clear(connections, c);
+    connection_table::clear(connections, c);
     crate::answers::disconnected()
 }
 
@@ -30,8 +30,8 @@ pub fn end(connections: &mut [u8], c: u8, relay: &mut [u8]) -> Answer
     ensures { λ r. ⌜ ((ls al reply : List ℕ) → handled r (now (connections .exit)) ls reply (now (relay .exit))
         ≡ applied (planEnd (lent (now (connections .entry)) ls al) c) reply (now (relay .entry))) ⌝ }
 {
-    let d = tables::connections::peer(connections, c);
-    tables::connections::end_session(connections, c, d);
+    let d = session_records::peer(connections, c);
+    session_records::end_session(connections, c, d);
     let sent = svsc_writers::svsc_write_session_end_notification(relay);
     crate::answers::relayed(sent.length as u32, d)
 }
@@ -43,7 +43,7 @@ pub fn end_if_any(connections: &mut [u8], c: u8, relay: &mut [u8]) -> Answer
         ≡ applied (if hasSession (now (connections .entry)) c then planEnd (lent (now (connections .entry)) ls al) c
         else doNothing (lent (now (connections .entry)) ls al)) reply (now (relay .entry))) ⌝ }
 {
-    if tables::connections::has_session(connections, c) {
+    if session_records::has_session(connections, c) {
         return end(connections, c, relay);
     }
     crate::answers::sent_nothing(0)
@@ -55,7 +55,7 @@ pub fn send(connections: &[u8], c: u8, m: &[u8], relay: &mut [u8]) -> Answer
     ensures { λ r. ⌜ ((ls al reply : List ℕ) → handled r (now (connections .entry)) ls reply (now (relay .exit))
         ≡ applied (planData (lent (now (connections .entry)) ls al) c (drop 1 (now (m .entry)))) reply (now (relay .entry))) ⌝ }
 {
-    let d = tables::connections::peer(connections, c);
+    let d = session_records::peer(connections, c);
     let bytes = octets::after(m, 1);
     let sent = svsc_writers::svsc_write_data_receive(relay, bytes);
     crate::answers::relayed(sent.length as u32, d)

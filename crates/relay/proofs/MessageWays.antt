@@ -20,11 +20,11 @@ use Rattle.rules.specs.Step.{done, step}
 use Rattle.handlers.specs.declared.Answer.{Answer}
 use Rattle.handlers.specs.Applied.{Handled, handled, applied}
 use Rattle.relay.specs.Results.{result, shown}
-use Rattle.checks.specs.Passed.{Payable}
+use Rattle.refusals.specs.Passed.{Payable}
 use Rattle.handlers.specs.Asked.{Admitted}
 use Rattle.checks.proofs.MessageChecks.{ends, peer-length}
 use Rattle.relay.proofs.Ways.{done-way}
-use Rattle.checks.proofs.Stops.{call-sized, call-known, call-timely, right-lengths, sent-by-peer, payable}
+use Rattle.refusals.proofs.Stops.{call-sized, call-known, call-timely, right-lengths, sent-by-peer, payable}
 
 -- ---- the charge
 

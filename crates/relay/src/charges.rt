@@ -2,7 +2,7 @@
 ghost use mathlib.Core.Path.{_≡_};
 ghost use Rattle.allowance.specs.Bucket.{spend};
 ghost use Rattle.rules.specs.Tables.{partnerOf, bucketOf, setBucket, setClock};
-ghost use Rattle.checks.specs.Passed.{Payable};
+ghost use Rattle.refusals.specs.Passed.{Payable};
 
 // Takes the cost from what the connection's partner has, and sets the clock. That it has as much is what check 9 has shown.
 pub fn pay(allowances: &mut [u8], time: u64, c: u8, cost: u64)
@@ -12,7 +12,7 @@ pub fn pay(allowances: &mut [u8], time: u64, c: u8, cost: u64)
         (partnerOf c)) time cost)) time ⌝ }
 {
     let partner = c as usize / rules::CONNECTIONS_PER_PARTNER;
-    let level = tables::allowances::level(allowances, partner, time);
-    tables::allowances::store(allowances, partner, level - cost, time);
-    tables::allowances::set_clock(allowances, time);
+    let level = allowance_table::level(allowances, partner, time);
+    allowance_table::store(allowances, partner, level - cost, time);
+    allowance_table::set_clock(allowances, time);
 }

@@ -10,7 +10,7 @@ ghost use Rattle.rules.specs.Charges.{cost, charge};
 ghost use Rattle.rules.specs.Plans.{planMessage};
 ghost use Rattle.rules.specs.Step.{step, done};
 ghost use Rattle.relay.specs.Results.{result, shown};
-ghost use Rattle.checks.specs.Passed.{Payable};
+ghost use Rattle.refusals.specs.Passed.{Payable};
 ghost use Rattle.handlers.specs.Asked.{Admitted};
 use handlers::Answer;
 
@@ -23,9 +23,9 @@ fn settle(allowances: &mut [u8], time: u64, c: u8, m: &[u8])
         (cost (message time c (now (m .entry)) random reply relay))) time) ⌝ }
 {
     if octets::byte(m, 0) == 9 {
-        tables::allowances::set_clock(allowances, time);
+        allowance_table::set_clock(allowances, time);
     } else {
-        crate::charges::pay(allowances, time, c, checks::message::cost(m));
+        crate::charges::pay(allowances, time, c, checks::cost(m));
     }
 }
 
@@ -46,7 +46,7 @@ pub extern "C" fn crondelith_message(
         ≡ shown (step (lent (now (connections .entry)) (now (leases .entry)) (now (allowances .entry)))
         (message time connection (now (m .entry)) (now (random .entry)) (now (reply .entry)) (now (relay .entry)))) ⌝ }
 {
-    let refusal = checks::message::refusal(
+    let refusal = message_refusal::refusal(
         connections,
         leases,
         allowances,
