@@ -6,16 +6,17 @@ use lib.ListN.{length, replicate}
 use Rattle.octets.specs.Octets.{part, put}
 use Rattle.octets.proofs.Parts.{part-join}
 use Rattle.octets.proofs.Stores.{put-behind}
+use Rattle.svsc.specs.Messages.{keyBytes}
 use Rattle.rules.specs.Sizes.{nobody}
-use Rattle.rules.specs.Tables.{peerAt, keysAt}
+use Rattle.rules.specs.Tables.{peerAt, keysAt, keysBytes}
 use Rattle.rules.specs.Sessions.{join, leave, establish}
 
-pub joined : (cs b₁ b₂ b₃ : List ℕ) (c other : ℕ) (session pair : List ℕ) → length session ≡ 16 → b₁ ≡ put cs (peerAt c) (other ∷ [])
-    → b₂ ≡ put b₁ (keysAt c) session → b₃ ≡ put b₂ (keysAt c + 16) pair → b₃ ≡ join cs c other (session ++ pair)
+pub joined : (cs b₁ b₂ b₃ : List ℕ) (c other : ℕ) (session pair : List ℕ) → length session ≡ keyBytes → b₁ ≡ put cs (peerAt c) (other ∷ [])
+    → b₂ ≡ put b₁ (keysAt c) session → b₃ ≡ put b₂ (keysAt c + keyBytes) pair → b₃ ≡ join cs c other (session ++ pair)
 unfolding join
-joined cs b₁ b₂ b₃ c other session pair l e₁ e₂ e₃ = rw (e₃, e₂, e₁) (put-behind (put cs (peerAt c) (other ∷ [])) (keysAt c) 16 session pair l)
+joined cs b₁ b₂ b₃ c other session pair l e₁ e₂ e₃ = rw (e₃, e₂, e₁) (put-behind (put cs (peerAt c) (other ∷ [])) (keysAt c) keyBytes session pair l)
 
-pub left : (cs b₁ b₂ : List ℕ) (c : ℕ) → b₁ ≡ put cs (peerAt c) (nobody ∷ []) → b₂ ≡ put b₁ (keysAt c) (replicate 48 0) → b₂ ≡ leave cs c
+pub left : (cs b₁ b₂ : List ℕ) (c : ℕ) → b₁ ≡ put cs (peerAt c) (nobody ∷ []) → b₂ ≡ put b₁ (keysAt c) (replicate keysBytes 0) → b₂ ≡ leave cs c
 unfolding leave join
 left cs b₁ b₂ c e₁ e₂ = rw (e₂, e₁)
 

@@ -2,6 +2,8 @@
 ghost use mathlib.Core.Path.{_≡_};
 ghost use mathlib.Core.List.{_++_};
 ghost use lib.ListN.{length};
+ghost use Rattle.svsc.specs.Messages.{keyBytes};
+ghost use Rattle.rules.specs.Sizes.{randomBytes};
 ghost use Rattle.rules.specs.Tables.{peer, inSession, hasSession};
 ghost use Rattle.rules.specs.Sessions.{join, leave, endSession, establish};
 
@@ -36,19 +38,19 @@ pub fn has_session(connections: &[u8], c: u8) -> bool
 
 // Writes the other's number, the session id and the pair of peer id and key into a record.
 fn join(connections: &mut [u8], c: u8, other: u8, session: &[u8], pair: &[u8])
-    requires { ⌜ length (now session) ≡ 16 ⌝ }
+    requires { ⌜ length (now session) ≡ keyBytes ⌝ }
     ensures { λ _. ⌜ now (connections .exit)
         ≡ join (now (connections .entry)) c other (now (session .entry) ++ now (pair .entry)) ⌝ }
 {
     let at = rules::CONNECTION_BYTES * c as usize;
     octets::write8(connections, at + rules::PEER_AT, other);
     octets::copy(connections, at + rules::KEYS_AT, session);
-    octets::copy(connections, at + rules::KEYS_AT + 16, pair);
+    octets::copy(connections, at + rules::KEYS_AT + svsc::KEY, pair);
 }
 
 // Joins the caller and the holder: one session id, and to each its own pair.
 pub fn establish(connections: &mut [u8], c: u8, holder: u8, random: &[u8])
-    requires { ⌜ length (now random) ≡ 80 ⌝ }
+    requires { ⌜ length (now random) ≡ randomBytes ⌝ }
     ensures { λ _. ⌜ now (connections .exit) ≡ establish (now (connections .entry)) c holder (now (random .entry)) ⌝ }
 {
     join(connections, c, holder, &random[0..16], &random[16..48]);
