@@ -48,16 +48,16 @@ pub fn are_wrong_lengths(m: &[u8], random: &[u8], reply: &[u8], relay: &[u8]) ->
         | (relay.len() < least)
 }
 
+const YES: bool = true;
+
+const NO: bool = false;
+
 // 7: which type may come in which state: closed, awaiting the version answer, open.
 const PERMITTED: [[bool; 14]; 3] = [
     [NO, NO, NO, NO, NO, NO, NO, NO, NO, NO, NO, NO, NO, NO],
     [NO, YES, NO, NO, NO, NO, NO, NO, NO, NO, NO, NO, NO, NO],
     [NO, NO, YES, NO, YES, NO, YES, NO, NO, YES, NO, YES, NO, YES],
 ];
-
-const YES: bool = true;
-
-const NO: bool = false;
 
 pub fn is_permitted(state: u8, kind: u8) -> bool
     ensures { λ r. ⌜ r ≡ permits state kind ⌝ }

@@ -1,4 +1,4 @@
-// The tables of a fresh relay.
+// The tables of a fresh relay. Tables of the right size are required: check 1 comes before anything here is called.
 ghost use mathlib.Core.Path.{_≡_};
 ghost use Prim.Native.Nat.{ℕ, _*_, _≤_};
 ghost use lib.ListN.{length};

@@ -1,4 +1,5 @@
-// The sessions in the connection table: who is in session with whom, and what both records hold of it.
+// The sessions in the connection table: who is in session with whom, and what both records hold of it. Random bytes of the right length are
+// required: check 5 comes before they are used.
 ghost use mathlib.Core.Path.{_≡_};
 ghost use mathlib.Core.List.{_++_};
 ghost use lib.ListN.{length};
