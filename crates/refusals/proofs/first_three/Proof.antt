@@ -1,4 +1,5 @@
 -- `first_three`: a way out for each check.
+use native.Mathlib.Omega.{arith}
 use Rattle.rules.specs.Tables.{lent}
 use mathlib.Core.Path.{refl, sym, _∙_}
 use borrow.Author.Tests.{not-false}
@@ -28,12 +29,12 @@ returns-2 c =
 returns-3 : tie.Need-returns-3
 returns-3 c =
     let a = c .before .before .before .before .before .before .before .before .args in
-    wrong-connection (lent (a .connections .now) (a .leases .now) (a .allowances .now)) (a .time) (a .connection) _ _ (c .before .before .before .before .sized .ensures) (c .before .before .is-wrong-time .ensures) (c .before .before .before .if1 .left) (c .before .if2 .left) (c .if3 .taken)
+    wrong-connection (lent (a .connections .now) (a .leases .now) (a .allowances .now)) (a .time) (a .connection) _ _ (c .before .before .before .before .sized .ensures) (c .before .before .is-wrong-time .ensures) (c .before .before .before .if1 .left) (c .before .if2 .left) (omega arith)
 
 returns-4 : tie.Need-returns-4
 returns-4 c =
     let a = c .before .before .before .before .before .before .before .before .args in
-    three-pass (lent (a .connections .now) (a .leases .now) (a .allowances .now)) (a .time) (a .connection) _ _ (c .before .before .before .before .sized .ensures) (c .before .before .is-wrong-time .ensures) (c .before .before .before .if1 .left) (c .before .if2 .left) (c .if3 .left)
+    three-pass (lent (a .connections .now) (a .leases .now) (a .allowances .now)) (a .time) (a .connection) _ _ (c .before .before .before .before .sized .ensures) (c .before .before .is-wrong-time .ensures) (c .before .before .before .if1 .left) (c .before .if2 .left) (omega arith)
 
 pub first-three-spec : {M : Type 1} → statement M
 first-three-spec =

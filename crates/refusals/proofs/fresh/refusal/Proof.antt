@@ -1,4 +1,5 @@
 -- `refusal`: a way out for each check.
+use native.Mathlib.Omega.{arith}
 use Rattle.rules.specs.Tables.{lent}
 use Rattle.refusals.proofs.Stops.{start-wrong-size, start-wrong-time, start-passes}
 use borrow.Author.Needs.{needs}
@@ -16,12 +17,12 @@ returns c =
 returns-2 : tie.Need-returns-2
 returns-2 c =
     let a = c .before .before .before .before .before .before .args in
-    start-wrong-time (lent (a .connections .now) (a .leases .now) (a .allowances .now)) (a .time) _ (c .before .before .sized .ensures) (c .before .if1 .left) (c .if2 .taken)
+    start-wrong-time (lent (a .connections .now) (a .leases .now) (a .allowances .now)) (a .time) _ (c .before .before .sized .ensures) (c .before .if1 .left) (omega arith)
 
 returns-3 : tie.Need-returns-3
 returns-3 c =
     let a = c .before .before .before .before .before .before .args in
-    start-passes (lent (a .connections .now) (a .leases .now) (a .allowances .now)) (a .time) _ (c .before .before .sized .ensures) (c .before .if1 .left) (c .if2 .left)
+    start-passes (lent (a .connections .now) (a .leases .now) (a .allowances .now)) (a .time) _ (c .before .before .sized .ensures) (c .before .if1 .left) (omega arith)
 
 pub refusal-spec : {M : Type 1} → statement M
 refusal-spec = tie.close (tie.spec sized-requires returns returns-2 returns-3)

@@ -27,12 +27,12 @@ state-requires c κs = search needs
 returns-2 : tie.Need-returns-2
 returns-2 c =
     let a = c .before .before .before .before .before .before .before .before .args in
-    open-wrong-state (lent (a .connections .now) (a .leases .now) (a .allowances .now)) (a .time) (a .connection) (a .reply .now) _ _ (c .before .before .before .first-three .ensures) (c .before .before .if1 .left) (c .before .state .ensures) (c .if2 .taken)
+    open-wrong-state (lent (a .connections .now) (a .leases .now) (a .allowances .now)) (a .time) (a .connection) (a .reply .now) _ _ (c .before .before .before .first-three .ensures) (c .before .before .if1 .left) (c .before .state .ensures) (λ z. omega arith)
 
 returns-3 : tie.Need-returns-3
 returns-3 c =
     let a = c .before .before .before .before .before .before .before .before .before .args in
-    open-wrong-lengths (lent (a .connections .now) (a .leases .now) (a .allowances .now)) (a .time) (a .connection) (a .reply .now) _ _ (c .before .before .before .before .first-three .ensures) (c .before .before .before .if1 .left) (c .before .before .state .ensures) (c .before .if2 .left) (c .if3 .taken)
+    open-wrong-lengths (lent (a .connections .now) (a .leases .now) (a .allowances .now)) (a .time) (a .connection) (a .reply .now) _ _ (c .before .before .before .before .first-three .ensures) (c .before .before .before .if1 .left) (c .before .before .state .ensures) (omega arith) (c .if3 .taken)
 
 cast-partner : tie.Need-cast-partner
 cast-partner c = search needs
@@ -46,12 +46,12 @@ level-requires c κs =
 returns-4 : tie.Need-returns-4
 returns-4 c =
     let a = c .before .before .before .before .before .before .before .before .before .before .before .args in
-    open-above-level (lent (a .connections .now) (a .leases .now) (a .allowances .now)) (a .time) (a .connection) (a .reply .now) _ _ (c .before .before .before .before .before .before .first-three .ensures) (c .before .before .before .before .before .if1 .left) (c .before .before .before .before .state .ensures) (c .before .before .before .if2 .left) (c .before .before .if3 .left) _ (c .before .level .ensures) (c .if4 .taken)
+    open-above-level (lent (a .connections .now) (a .leases .now) (a .allowances .now)) (a .time) (a .connection) (a .reply .now) _ _ (c .before .before .before .before .before .before .first-three .ensures) (c .before .before .before .before .before .if1 .left) (c .before .before .before .before .state .ensures) (omega arith) (c .before .before .if3 .left) _ (c .before .level .ensures) (c .if4 .taken)
 
 returns-5 : tie.Need-returns-5
 returns-5 c =
     let a = c .before .before .before .before .before .before .before .before .before .before .before .args in
-    open-passes (lent (a .connections .now) (a .leases .now) (a .allowances .now)) (a .time) (a .connection) (a .reply .now) _ _ (c .before .before .before .before .before .before .first-three .ensures) (c .before .before .before .before .before .if1 .left) (c .before .before .before .before .state .ensures) (c .before .before .before .if2 .left) (c .before .before .if3 .left) _ (c .before .level .ensures) (c .if4 .left)
+    open-passes (lent (a .connections .now) (a .leases .now) (a .allowances .now)) (a .time) (a .connection) (a .reply .now) _ _ (c .before .before .before .before .before .before .first-three .ensures) (c .before .before .before .before .before .if1 .left) (c .before .before .before .before .state .ensures) (omega arith) (c .before .before .if3 .left) _ (c .before .level .ensures) (c .if4 .left)
 
 pub refusal-spec : {M : Type 1} → statement M
 refusal-spec =
