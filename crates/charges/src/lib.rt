@@ -8,7 +8,7 @@ ghost use Rattle.allowance.specs.Bucket.{spend};
 ghost use Rattle.rules.specs.Tables.{partnerOf, bucketOf, setBucket, setClock};
 ghost use Rattle.rules.specs.Calls.{message};
 ghost use Rattle.rules.specs.Charges.{cost, charge};
-ghost use Rattle.checks.specs.Passed.{Payable};
+ghost use Rattle.refusals.specs.Passed.{Payable};
 
 // Takes the cost from what the connection's partner has, and sets the clock.
 pub fn pay(allowances: &mut [u8], time: u64, c: u8, cost: u64)
@@ -18,9 +18,9 @@ pub fn pay(allowances: &mut [u8], time: u64, c: u8, cost: u64)
         (partnerOf c)) time cost)) time ⌝ }
 {
     let partner = c as usize / rules::CONNECTIONS_PER_PARTNER;
-    let level = tables::allowances::level(allowances, partner, time);
-    tables::allowances::store(allowances, partner, level - cost, time);
-    tables::allowances::set_clock(allowances, time);
+    let level = allowance_table::level(allowances, partner, time);
+    allowance_table::store(allowances, partner, level - cost, time);
+    allowance_table::set_clock(allowances, time);
 }
 
 // Charges the message, unless it ends a session, and sets the clock.
@@ -32,8 +32,8 @@ pub fn settle(allowances: &mut [u8], time: u64, c: u8, m: &[u8])
         (cost (message time c (now (m .entry)) random reply relay))) time) ⌝ }
 {
     if octets::byte(m, 0) == 9 {
-        tables::allowances::set_clock(allowances, time);
+        allowance_table::set_clock(allowances, time);
     } else {
-        pay(allowances, time, c, checks::message::cost(m));
+        pay(allowances, time, c, checks::cost(m));
     }
 }

@@ -1,2 +1,1 @@
-pub mod Stops
 pub mod MessageChecks

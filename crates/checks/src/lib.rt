@@ -1,6 +1,94 @@
-// The checks of each call: the number of the first that applies, or 0. They only read.
-pub mod shared; // checks 1 to 3, which calls share
-pub mod fresh; // making a fresh relay
-pub mod open; // opening a connection
-pub mod message; // a message from a connection
-pub mod close; // closing a connection
+// Single checks, of which a call has some: what each looks at. They only read. The numbers that refuse a call are those of crates `refusals`
+// and `message_refusal`.
+ghost use mathlib.Core.Path.{_≡_};
+ghost use mathlib.Core.Bool.{not, _&&_, _||_};
+ghost use mathlib.Core.List.{List};
+ghost use Prim.Native.Nat.{ℕ, _≤_, max};
+ghost use lib.ListN.{length};
+ghost use lib.Dec.{eqb, ltb};
+ghost use Rattle.svsc.specs.Messages.{longestMessage};
+ghost use Rattle.rules.specs.Sizes.{allowancesSize};
+ghost use Rattle.rules.specs.Tables.{lent, sized, clock, hasSession};
+ghost use Rattle.rules.specs.Calls.{message};
+ghost use Rattle.rules.specs.Charges.{cost};
+ghost use Rattle.rules.specs.Checks.{pastLimit, wrongLengths, permits};
+
+// 1: whether the tables have their sizes.
+pub fn sized(connections: &[u8], leases: &[u8], allowances: &[u8]) -> bool
+    ensures { λ r. ⌜ r ≡ sized (lent (now (connections .entry)) (now (leases .entry)) (now (allowances .entry))) ⌝ }
+{
+    (connections.len() == rules::CONNECTIONS_SIZE)
+        & (leases.len() == rules::LEASES_SIZE)
+        & (allowances.len() == rules::ALLOWANCES_SIZE)
+}
+
+// 2: whether the time is past the limit or below the latest.
+pub fn is_wrong_time(allowances: &[u8], time: u64) -> bool
+    requires { ⌜ length (now allowances) ≡ allowancesSize ⌝ }
+    ensures { λ r. ⌜ r ≡ (pastLimit time || ltb time (clock (now (allowances .entry)))) ⌝ }
+{
+    let clock = allowance_table::clock(allowances);
+    (rules::TIME_LIMIT <= time) | (time < clock)
+}
+
+fn larger(a: usize, b: usize) -> usize
+    ensures { λ r. ⌜ r ≡ max a b ⌝ }
+{
+    if a < b { b } else { a }
+}
+
+// 5, of a message: its random bytes and both buffers.
+pub fn are_wrong_lengths(m: &[u8], random: &[u8], reply: &[u8], relay: &[u8]) -> bool
+    ensures { λ r. ⌜ ((time c : ℕ) → r ≡ wrongLengths (message time c (now (m .entry)) (now (random .entry)) (now (reply .entry))
+        (now (relay .entry)))) ⌝ }
+{
+    let least = larger(rules::LEAST_BUFFER, m.len());
+    (random.len() != rules::RANDOM_BYTES)
+        | (reply.len() < rules::LEAST_BUFFER)
+        | (relay.len() < least)
+}
+
+const YES: bool = true;
+
+const NO: bool = false;
+
+// 7: which type may come in which state: closed, awaiting the version answer, open.
+const PERMITTED: [[bool; 14]; 3] = [
+    [NO, NO, NO, NO, NO, NO, NO, NO, NO, NO, NO, NO, NO, NO],
+    [NO, YES, NO, NO, NO, NO, NO, NO, NO, NO, NO, NO, NO, NO],
+    [NO, NO, YES, NO, YES, NO, YES, NO, NO, YES, NO, YES, NO, YES],
+];
+
+pub fn is_permitted(state: u8, kind: u8) -> bool
+    ensures { λ r. ⌜ r ≡ permits state kind ⌝ }
+{
+    let s = state as usize;
+    let k = kind as usize;
+    if s < 3 {
+        if k < 14 {
+            return PERMITTED[s][k];
+        }
+    }
+    false
+}
+
+// 8: whether the type needs a session and there is none.
+pub fn has_no_session(connections: &[u8], c: u8, kind: u8) -> bool
+    ensures { λ r. ⌜ r ≡ ((eqb kind 9 || eqb kind 11) && not (hasSession (now (connections .entry)) c)) ⌝ }
+{
+    if (kind == 9) | (kind == 11) {
+        return !session_records::has_session(connections, c);
+    }
+    false
+}
+
+// For 9: what a message costs: nothing, if it ends a session. Of a message that passed check 6, whose length is bounded, so that the sum is too.
+pub fn cost(m: &[u8]) -> u64
+    requires { ⌜ length (now m) ≤ longestMessage ⌝ }
+    ensures { λ r. ⌜ ((time c : ℕ) (random reply relay : List ℕ) → r ≡ cost (message time c (now (m .entry)) random reply relay)) ⌝ }
+{
+    if octets::byte(m, 0) == 9 {
+        return 0;
+    }
+    rules::CALL_COST + m.len() as u64
+}

@@ -66,7 +66,7 @@ fn join(
         ≡ applied (planEstablish (lent (now (connections .entry)) ls al) c id (now (random .entry)) (establishedWith holder))
         (now (reply .entry)) (now (relay .entry))) ⌝ }
 {
-    tables::connections::establish(connections, c, holder, random);
+    session_records::establish(connections, c, holder, random);
     let told = tell_caller(reply, id, random);
     let notified = tell_holder(relay, random);
     answers::both(told, notified, holder)

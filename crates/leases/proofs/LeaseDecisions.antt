@@ -2,6 +2,7 @@
 use Prim.Native.Nat.{ℕ, _≤_, _<_}
 use mathlib.Core.Path.{_≡_, refl, sym, ap, subst, _∙_}
 use mathlib.Core.Bool.{Bool, true, false, not}
+use mathlib.Core.Option.{Option, none, some}
 use mathlib.Core.List.{List}
 use lib.Dec.{ltb}
 use borrow.Author.Tests.{lt-ltb, le-ltb, ltb-true}
@@ -11,18 +12,17 @@ use Rattle.rules.specs.Searches.{endRow}
 use Rattle.rules.specs.Tables.{partnerOf}
 use Rattle.rules.specs.Leases.{randomCookie, candidate, firstFree, holdsRow, spareRow, cookieTaken, LeaseDecision, holdsLease, noSpareRow, cookieInUse, noFreeId, granted, decideLease}
 use Rattle.leases.specs.declared.FreeId.{FreeId}
-use Rattle.leases.specs.declared.FreeId.the-variants as free
 use Rattle.leases.specs.declared.LeaseDecision.{LeaseDecision as Decided}
 use Rattle.leases.specs.declared.LeaseDecision.the-variants as decided
-use Rattle.leases.specs.Leases.{freeId, meaning}
+use Rattle.leases.specs.Leases.{foundId, freeId, meaning}
 
--- the last condition, by what the search for an id found
-abbrev byFreeId : FreeId → ℕ → List ℕ → LeaseDecision
-byFreeId (free.At id) row cookie = granted row id cookie
-byFreeId free.Nothing row cookie = noFreeId
+-- the last condition, by the id that was found
+abbrev byId : Option ℕ → ℕ → List ℕ → LeaseDecision
+byId (some id) row cookie = granted row id cookie
+byId none row cookie = noFreeId
 
 by-test : (t : Bool) (row id : ℕ) (cookie : List ℕ)
-    → byFreeId (if t then free.At id else free.Nothing) row cookie ≡ (if not t then noFreeId else granted row id cookie)
+    → byId (if t then some id else none) row cookie ≡ (if not t then noFreeId else granted row id cookie)
 by-test true row id cookie = refl
 by-test false row id cookie = refl
 
@@ -42,8 +42,8 @@ module _ (ls : List ℕ) (now c : ℕ) (random : List ℕ) {held : Bool} (holds 
       unfolding decideLease
       cookie-in-use e = rw (← holds, none, ← own, ← spare, ← last, lt-ltb row end room, ← given, ← used, e)
 
-      pub by-free-id : {found : FreeId} → taken ≡ false → found ≡ freeId ls now random → (x : FreeId) → found ≡ x
-          → byFreeId x row (randomCookie random) ≡ decideLease ls now c random
+      pub by-free-id : {found : FreeId} → taken ≡ false → foundId found ≡ freeId ls now random → (x : FreeId) → found ≡ x
+          → byId (foundId x) row (randomCookie random) ≡ decideLease ls now c random
       unfolding decideLease freeId
       by-free-id unused search x e =
           rw (← holds, none, ← own, ← spare, ← last, lt-ltb row end room, ← given, ← used, unused, ← e, search)

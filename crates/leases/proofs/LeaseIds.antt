@@ -2,6 +2,7 @@
 use Prim.Native.Nat.{ℕ, _+_, _-_, _≤_, _<_}
 use mathlib.Core.Path.{_≡_, refl, ap, _∙_}
 use mathlib.Core.Bool.{Bool, true, not}
+use mathlib.Core.Option.{none, some}
 use mathlib.Core.List.{List}
 use lib.Dec.{ltb}
 use borrow.Author.Tests.{lt-ltb}
@@ -9,9 +10,8 @@ use Rattle.rules.specs.Sizes.{rowCount, candidateCount}
 use Rattle.rules.specs.Searches.{firstFrom}
 use Rattle.rules.specs.Tables.{liveWithId}
 use Rattle.rules.specs.Leases.{candidate, idTaken, firstFree}
-use Rattle.leases.specs.declared.FreeId.the-variants as free
 use Rattle.leases.specs.Leases.{freeId}
-use Rattle.leases.proofs.RowSearch.{first-hit, first-miss, first-none, any-first}
+use Rattle.lease_search.proofs.RowSearch.{first-hit, first-miss, first-none, any-first}
 
 -- whether candidate k is free
 abbrev pub isFree : List ℕ → ℕ → List ℕ → ℕ → Bool
@@ -38,10 +38,10 @@ module _ (ls : List ℕ) (now : ℕ) (random : List ℕ) {k id : ℕ} (named : i
         first-hit (isFree ls now random) candidateCount inside refl
         (by-row rowCount (looked ∙ first-none (liveWithId ls now id) rowCount l h))
 
-  pub free-at : firstFree ls now random ≡ k → free.At id ≡ freeId ls now random
+  pub free-at : firstFree ls now random ≡ k → some id ≡ freeId ls now random
   unfolding freeId
   free-at e = rw (e, lt-ltb k candidateCount inside, named)
 
-pub free-none : (ls : List ℕ) (now : ℕ) (random : List ℕ) → firstFree ls now random ≡ candidateCount → free.Nothing ≡ freeId ls now random
+pub free-none : (ls : List ℕ) (now : ℕ) (random : List ℕ) → firstFree ls now random ≡ candidateCount → none ≡ freeId ls now random
 unfolding freeId
 free-none ls now random e = rw e

@@ -1,4 +1,2 @@
-pub mod RowSearch
-pub mod RowWrites
 pub mod LeaseIds
 pub mod LeaseDecisions

@@ -32,7 +32,7 @@ fn grant(
 {
     let until = leases::lease_end(allowances, time);
     let cookie = octets::part(random, 0, svsc::COOKIE);
-    leases::grant(leases, row, until, id, cookie, c);
+    lease_writes::grant(leases, row, until, id, cookie, c);
     let sent = svsc_lease_writers::svsc_write_lease_granted(reply, id, cookie, until);
     answers::replied(sent.length as u32)
 }
@@ -91,10 +91,10 @@ pub fn extend(
         (now (reply .entry)) relay) ⌝ }
 {
     let cookie = octets::part(m, 1, svsc::COOKIE);
-    let row = leases::row_to_extend(leases, time, c, cookie);
-    if row < leases::end_row(leases::partner_of(c)) {
+    let row = lease_search::row_to_extend(leases, time, c, cookie);
+    if row < lease_table::end_row(lease_table::partner_of(c)) {
         let until = leases::lease_end(allowances, time);
-        leases::extend(leases, row, until);
+        lease_writes::extend(leases, row, until);
         let sent = svsc_lease_writers::svsc_write_extension_granted(reply, until);
         return answers::replied(sent.length as u32);
     }

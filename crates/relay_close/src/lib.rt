@@ -27,9 +27,9 @@ fn accept(
         (planClose (lent (now (connections .entry)) (now (leases .entry)) (now (allowances .entry))) c)) ⌝ }
 {
     let answer = sessions::end_if_any(connections, c, relay);
-    leases::release(leases, c);
-    tables::connections::clear(connections, c);
-    tables::allowances::set_clock(allowances, time);
+    lease_writes::release(leases, c);
+    connection_table::clear(connections, c);
+    allowance_table::set_clock(allowances, time);
     answer
 }
 
@@ -46,7 +46,14 @@ pub extern "C" fn crondelith_close(
         ≡ shown (step (lent (now (connections .entry)) (now (leases .entry)) (now (allowances .entry))) (closing time connection
         (now (relay .entry)))) ⌝ }
 {
-    let refusal = checks::close::refusal(connections, leases, allowances, time, connection, relay);
+    let refusal = refusals::close::refusal(
+        connections,
+        leases,
+        allowances,
+        time,
+        connection,
+        relay,
+    );
     if refusal != 0 {
         return answers::sent_nothing(refusal);
     }

@@ -16,12 +16,12 @@ pub extern "C" fn crondelith_fresh(
     ensures { λ r. ⌜ result r (lent (now (connections .exit)) (now (leases .exit)) (now (allowances .exit))) [] []
         ≡ shown (start (lent (now (connections .entry)) (now (leases .entry)) (now (allowances .entry))) time) ⌝ }
 {
-    let refusal = checks::fresh::refusal(connections, leases, allowances, time);
+    let refusal = refusals::fresh::refusal(connections, leases, allowances, time);
     if refusal != 0 {
         return answers::sent_nothing(refusal);
     }
-    tables::fresh::fresh_connections(connections);
-    tables::fresh::fresh_leases(leases);
-    tables::fresh::fresh_allowances(allowances, time);
+    fresh_tables::fresh_connections(connections);
+    fresh_tables::fresh_leases(leases);
+    fresh_tables::fresh_allowances(allowances, time);
     answers::sent_nothing(0)
 }

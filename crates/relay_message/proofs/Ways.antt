@@ -18,11 +18,11 @@ use Rattle.rules.specs.Step.{done, step}
 use Rattle.answers.specs.declared.Answer.{Answer}
 use Rattle.answers.specs.Applied.{Handled, handled, applied}
 use Rattle.answers.specs.Results.{result, shown}
-use Rattle.checks.specs.Passed.{Payable}
+use Rattle.refusals.specs.Passed.{Payable}
 use Rattle.dispatch.specs.Asked.{Admitted}
 use Rattle.checks.proofs.MessageChecks.{peer-length}
 use Rattle.answers.proofs.Ways.{done-way}
-use Rattle.checks.proofs.Stops.{call-sized, call-known, call-timely, right-lengths, sent-by-peer, payable}
+use Rattle.refusals.proofs.Stops.{call-sized, call-known, call-timely, right-lengths, sent-by-peer, payable}
 
 message-done : (tables : Tables) (cs′ ls′ al′ : List ℕ) (time c : ℕ) (m random reply relay reply′ relay′ : List ℕ) (p : Plan) (r : Answer)
     → handled r cs′ ls′ reply′ relay′ ≡ applied p reply relay

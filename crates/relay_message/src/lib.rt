@@ -23,7 +23,7 @@ pub extern "C" fn crondelith_message(
         ≡ shown (step (lent (now (connections .entry)) (now (leases .entry)) (now (allowances .entry)))
         (message time connection (now (m .entry)) (now (random .entry)) (now (reply .entry)) (now (relay .entry)))) ⌝ }
 {
-    let refusal = checks::message::refusal(
+    let refusal = message_refusal::refusal(
         connections,
         leases,
         allowances,

@@ -9,7 +9,7 @@ ghost use Rattle.rules.specs.Calls.{opening};
 ghost use Rattle.rules.specs.Plans.{planOpen};
 ghost use Rattle.rules.specs.Step.{step, done};
 ghost use Rattle.answers.specs.Results.{result, shown};
-ghost use Rattle.checks.specs.Passed.{Payable};
+ghost use Rattle.refusals.specs.Passed.{Payable};
 use answers::Answer;
 
 // The work of an open that passes its checks.
@@ -25,7 +25,7 @@ fn accept(
         ≡ shown (done (lent (now (connections .entry)) ls (now (allowances .entry))) (opening time c (now (reply .entry)))
         (planOpen (lent (now (connections .entry)) ls (now (allowances .entry))) c))) ⌝ }
 {
-    tables::connections::await_version(connections, c);
+    connection_table::await_version(connections, c);
     charges::pay(allowances, time, c, rules::CALL_COST);
     let sent = svsc_version_writers::svsc_write_version(reply, 1, 0);
     answers::replied(sent.length as u32)
@@ -44,7 +44,7 @@ pub extern "C" fn crondelith_open(
         ≡ shown (step (lent (now (connections .entry)) (now (leases .entry)) (now (allowances .entry))) (opening time connection
         (now (reply .entry)))) ⌝ }
 {
-    let refusal = checks::open::refusal(connections, leases, allowances, time, connection, reply);
+    let refusal = refusals::open::refusal(connections, leases, allowances, time, connection, reply);
     if refusal != 0 {
         return answers::sent_nothing(refusal);
     }

@@ -1,4 +1,5 @@
--- The rules of the relay: all of 01 as definitions, in the order in which they build on each other.
+-- The rules of the relay: all of 01 as definitions, in the order in which they build on each other; behind Demand3, from Bytes on, what
+-- the laws say, as statements.
 pub mod Sizes
 pub mod Searches
 pub mod Tables

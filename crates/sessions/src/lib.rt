@@ -18,10 +18,10 @@ pub fn answer_version(connections: &mut [u8], c: u8, ok: u8) -> Answer
         ≡ applied (planVersionAnswer (lent (now (connections .entry)) ls al) c ok) reply relay) ⌝ }
 {
     if ok == 1 {
-        tables::connections::set_open(connections, c);
+        connection_table::set_open(connections, c);
         return answers::sent_nothing(0);
     }
-    tables::connections::clear(connections, c);
+    connection_table::clear(connections, c);
     answers::disconnected()
 }
 
@@ -31,8 +31,8 @@ pub fn end(connections: &mut [u8], c: u8, relay: &mut [u8]) -> Answer
     ensures { λ r. ⌜ ((ls al reply : List ℕ) → handled r (now (connections .exit)) ls reply (now (relay .exit))
         ≡ applied (planEnd (lent (now (connections .entry)) ls al) c) reply (now (relay .entry))) ⌝ }
 {
-    let other = tables::connections::peer(connections, c);
-    tables::connections::end_session(connections, c, other);
+    let other = session_records::peer(connections, c);
+    session_records::end_session(connections, c, other);
     let sent = svsc_session_writers::svsc_write_session_end_notification(relay);
     answers::relayed(sent.length as u32, other)
 }
@@ -44,7 +44,7 @@ pub fn end_if_any(connections: &mut [u8], c: u8, relay: &mut [u8]) -> Answer
         ≡ applied (if hasSession (now (connections .entry)) c then planEnd (lent (now (connections .entry)) ls al) c
         else doNothing (lent (now (connections .entry)) ls al)) reply (now (relay .entry))) ⌝ }
 {
-    if tables::connections::has_session(connections, c) {
+    if session_records::has_session(connections, c) {
         return end(connections, c, relay);
     }
     answers::sent_nothing(0)
@@ -56,7 +56,7 @@ pub fn send(connections: &[u8], c: u8, m: &[u8], relay: &mut [u8]) -> Answer
     ensures { λ r. ⌜ ((ls al reply : List ℕ) → handled r (now (connections .entry)) ls reply (now (relay .exit))
         ≡ applied (planData (lent (now (connections .entry)) ls al) c (drop 1 (now (m .entry)))) reply (now (relay .entry))) ⌝ }
 {
-    let destination = tables::connections::peer(connections, c);
+    let destination = session_records::peer(connections, c);
     let bytes = octets::after(m, 1);
     let sent = svsc_session_writers::svsc_write_data_receive(relay, bytes);
     answers::relayed(sent.length as u32, destination)

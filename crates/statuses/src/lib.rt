@@ -21,7 +21,7 @@ fn holder_counts(connections: &[u8], row: usize, holder: u8) -> bool
     ensures { λ r. ⌜ r ≡ (eqb (partnerOf holder) (ownerOf row) && isOpen (now (connections .entry)) holder) ⌝ }
 {
     (holder as usize / rules::CONNECTIONS_PER_PARTNER == row / rules::ROWS_PER_PARTNER)
-        & tables::connections::is_open(connections, holder)
+        & connection_table::is_open(connections, holder)
 }
 
 // The first status that applies, in 01's order, or the holder.
@@ -29,22 +29,22 @@ pub fn decide(connections: &[u8], leases: &[u8], time: u64, c: u8, id: u32) -> E
     requires { ⌜ (length (now leases) ≡ leasesSize) × (c < connectionCount) ⌝ }
     ensures { λ r. ⌜ decidedAs r ≡ decideEstablish (now (connections .entry)) (now (leases .entry)) time c id ⌝ }
 {
-    if tables::connections::has_session(connections, c) {
+    if session_records::has_session(connections, c) {
         return EstablishDecision::RefusedWith(4);
     }
-    let partner = leases::partner_of(c);
-    let row = leases::row_of_id(leases, time, partner, id);
-    if leases::end_row(partner) <= row {
+    let partner = lease_table::partner_of(c);
+    let row = lease_search::row_of_id(leases, time, partner, id);
+    if lease_table::end_row(partner) <= row {
         return EstablishDecision::RefusedWith(1);
     }
-    let holder = leases::holder(leases, row);
+    let holder = lease_table::holder(leases, row);
     if !holder_counts(connections, row, holder) {
         return EstablishDecision::RefusedWith(2);
     }
     if holder == c {
         return EstablishDecision::RefusedWith(5);
     }
-    if tables::connections::has_session(connections, holder) {
+    if session_records::has_session(connections, holder) {
         return EstablishDecision::RefusedWith(3);
     }
     EstablishDecision::EstablishedWith(holder)

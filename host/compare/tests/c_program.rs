@@ -1,19 +1,19 @@
-//! The headers as a C compiler sees them: the programs of host/c, compiled, linked with their archives and run.
+//! The headers as a C compiler sees them: the programs of host/c, compiled, linked with an archive each and run.
 
 use std::path::Path;
 use std::process::Command;
 
 #[test]
-fn the_codec_s_header_and_archives_serve_a_c_program() {
-    compile_and_run("svsc_check", &engine::svsc::ARCHIVES);
+fn the_codec_s_header_and_archive_serve_a_c_program() {
+    compile_and_run("svsc_check", engine::svsc::ARCHIVE);
 }
 
 #[test]
 fn the_relay_s_header_and_archive_serve_a_c_program() {
-    compile_and_run("crondelith_check", &engine::relay::ARCHIVES);
+    compile_and_run("crondelith_check", engine::relay::ARCHIVE);
 }
 
-fn compile_and_run(name: &str, archives: &[&str]) {
+fn compile_and_run(name: &str, archive: &str) {
     let host = Path::new(env!("CARGO_MANIFEST_DIR")).join("..");
     let program = Path::new(env!("CARGO_TARGET_TMPDIR")).join(name);
     let compiler = std::env::var("CC").unwrap_or("cc".into());
@@ -23,7 +23,7 @@ fn compile_and_run(name: &str, archives: &[&str]) {
         .arg("-o")
         .arg(&program)
         .arg(host.join("c").join(name).with_extension("c"))
-        .args(archives));
+        .arg(archive));
     run(&mut Command::new(program));
 }
 

@@ -3,7 +3,7 @@
 use std::mem::{align_of, offset_of, size_of};
 
 /// The archive of these functions, for a C program to link too.
-pub const ARCHIVES: [&str; 1] = [env!("CRONDELITH_LINKED_RELAY")];
+pub const ARCHIVE: &str = env!("CRONDELITH_LINKED_CRONDELITH");
 
 /// The sizes of the three tables.
 pub const CONNECTIONS: usize = 4096;

@@ -2,13 +2,8 @@
 
 use std::mem::{offset_of, size_of};
 
-/// The archives of these functions, for a C program to link too.
-pub const ARCHIVES: [&str; 4] = [
-    env!("CRONDELITH_LINKED_SVSC_BOUNDARY"),
-    env!("CRONDELITH_LINKED_SVSC_VERSION_WRITERS"),
-    env!("CRONDELITH_LINKED_SVSC_LEASE_WRITERS"),
-    env!("CRONDELITH_LINKED_SVSC_SESSION_WRITERS"),
-];
+/// The archive of these functions, for a C program to link too.
+pub const ARCHIVE: &str = env!("CRONDELITH_LINKED_SVSC");
 
 pub const DONE: u32 = 0;
 /// The buffer is too short.

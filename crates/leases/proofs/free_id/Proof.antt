@@ -5,7 +5,7 @@ use Rattle.rules.specs.Sizes.{rowCount, candidateCount}
 use Rattle.rules.specs.Searches.{firstFrom}
 use Rattle.rules.specs.Tables.{liveWithId}
 use Rattle.rules.specs.Leases.{firstFree}
-use Rattle.leases.proofs.RowSearch.{first-miss, first-none}
+use Rattle.lease_search.proofs.RowSearch.{first-miss, first-none}
 use Rattle.leases.proofs.LeaseIds.{isFree, next-candidate, this-candidate, free-at, free-none}
 use borrow.Author.Needs.{needs}
 use native.Mathlib.Omega.{arith}

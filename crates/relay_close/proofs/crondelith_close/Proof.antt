@@ -3,7 +3,7 @@ use native.Mathlib.Omega.{arith}
 use Rattle.rules.specs.Tables.{lent}
 use Rattle.rules.specs.Calls.{closing}
 use Rattle.rules.specs.Plans.{plan}
-use Rattle.checks.proofs.Stops.{call-known, close-known}
+use Rattle.refusals.proofs.Stops.{call-known, close-known}
 use Rattle.answers.proofs.Ways.{refused-way, done-way}
 use borrow.Author.Needs.{needs}
 use Rattle.relay_close.proofs.crondelith_close.Statement.{statement}

@@ -1,6 +1,6 @@
 -- `crondelith_fresh`: refused, or each table made fresh.
 use Rattle.rules.specs.Tables.{lent}
-use Rattle.checks.proofs.Stops.{start-sized}
+use Rattle.refusals.proofs.Stops.{start-sized}
 use Rattle.relay_fresh.proofs.Ways.{start-refused, start-done}
 use borrow.Author.Needs.{needs}
 use Rattle.relay_fresh.proofs.crondelith_fresh.Statement.{statement}

@@ -2,7 +2,7 @@
 use native.Mathlib.Omega.{arith}
 use Rattle.rules.specs.Tables.{lent}
 use Rattle.rules.specs.Calls.{message}
-use Rattle.checks.proofs.Stops.{call-known}
+use Rattle.refusals.proofs.Stops.{call-known}
 use Rattle.answers.proofs.Ways.{refused-way}
 use Rattle.relay_message.proofs.Ways.{admitted, admitted-length, admitted-payable, message-way}
 use borrow.Author.Needs.{needs}

@@ -1,0 +1,30 @@
+// Closing a connection.
+ghost use mathlib.Core.Path.{_≡_};
+ghost use Rattle.rules.specs.Tables.{lent};
+ghost use Rattle.rules.specs.Calls.{closing};
+ghost use Rattle.rules.specs.Checks.{check};
+
+pub fn refusal(
+    connections: &[u8],
+    leases: &[u8],
+    allowances: &[u8],
+    time: u64,
+    connection: u64,
+    relay: &[u8],
+) -> u32
+    ensures { λ r. ⌜ r ≡ check (lent (now (connections .entry)) (now (leases .entry)) (now (allowances .entry)))
+        (closing time connection (now (relay .entry))) ⌝ }
+{
+    let first = crate::first_three(connections, leases, allowances, time, connection);
+    if first != 0 {
+        return first;
+    }
+    let c = connection as u8;
+    if connection_table::state(connections, c) == rules::CLOSED {
+        return 4;
+    }
+    if relay.len() < rules::LEAST_BUFFER {
+        return 5;
+    }
+    0
+}
