@@ -1,15 +1,16 @@
 -- Each check applies exactly if its sentence holds, and the answer's number is that of the first which applies. Assumes nothing.
-use Prim.Native.Nat.{ℕ, zero, suc, _-_, _≤_, _<_, max}
-use mathlib.Core.Path.{_≡_, refl, sym, _∙_}
+use Prim.Native.Nat.{ℕ, zero, suc, _+_, _-_, _≤_, _<_, max}
+use mathlib.Core.Path.{_≡_, refl, sym, ap, _∙_}
 use mathlib.Core.Logic.{⊎-elim, _↔_}
 use mathlib.Core.Bool.{Bool, true, false, not, true≢false, false≢true}
 use mathlib.Core.Option.{Option, none, some}
 use mathlib.Core.List.{List, [], _∷_, map}
+use native.Mathlib.Nat.{zero-add}
 use native.Mathlib.Omega.{arith}
 use native.Mathlib.Decide.{decLe}
 use lib.Dec.{leb}
 use lib.ListN.{length, getD}
-use borrow.Author.Tests.{not-true}
+use borrow.Author.Tests.{eq-eqb, ne-eqb, not-true}
 use Rattle.octets.proofs.Tests.{by-test}
 use Rattle.svsc.specs.Messages.{Message, sentByPeers, typeOf, isSome, decode, fromPeer, typesIn}
 use Rattle.rules.specs.Sizes.{connectionCount, connectionsSize, leasesSize, allowancesSize, timeLimit, randomBytes, leastBuffer}
@@ -18,12 +19,46 @@ use Rattle.rules.specs.Calls.{Call, opening, message, closing, timeOf, c
 use Rattle.rules.specs.Charges.{cost, price, callerLevel}
 use Rattle.rules.specs.Checks.{wrongTime, wrongState, wrongLengths, notFromPeer, permitted, permits, notPermitted, noSession, aboveLevel, firstEight, checks, firstApplying, check, checkStart}
 use Rattle.rules.specs.Step.{step, start, started}
-use Rattle.rules.specs.Refusals.{Applies, RightSizes, InWrongState, OfWrongLengths, SentByPeer, NotSentByPeer, NotPermittedHere, WithoutSession, EachExactly, StartExactly}
+use Rattle.rules.specs.Refusals.{Applies, RightSizes, isOneOf, permittedTypes, InWrongState, OfWrongLengths, SentByPeer, NotSentByPeer, NotPermittedHere, WithoutSession, EachExactly, StartExactly}
 use Rattle.rules.proofs.Exactly.{eq-exactly, lt-exactly, le-exactly, not-exactly, and-exactly, or-exactly, false-exactly, never}
 use Rattle.rules.proofs.Connections.{session-with}
 use Rattle.rules.proofs.Checks.{none-applies, all-pass, first-applies, applied-first, at-most}
 use Rattle.rules.proofs.Answers.{answer-is-check}
 use Rattle.rules.proofs.Demand3.{start-number}
+
+-- ---- tables by type
+
+-- a row says true of the types that it has, and of no others
+below : (row : List Bool) (k n : ℕ) → n < k → isOneOf n (typesIn k row) ≡ false
+unfolding isOneOf typesIn
+below [] k n l = refl
+below (true ∷ row) k n l = rw (ne-eqb n k (λ e. omega arith)) (below row (k + 1) n (omega arith))
+below (false ∷ row) k n l = below row (k + 1) n (omega arith)
+
+row-is : (row : List Bool) (k i : ℕ) → getD row i false ≡ isOneOf (k + i) (typesIn k row)
+unfolding isOneOf typesIn
+row-is [] k i = refl
+row-is (true ∷ row) k zero = rw (eq-eqb (k + 0) k (omega arith))
+row-is (true ∷ row) k (suc i) =
+    let e : k + suc i ≡ k + 1 + i = omega arith in
+    rw (ne-eqb (k + suc i) k (λ e. omega arith), e) (row-is row (k + 1) i)
+row-is (false ∷ row) k zero = sym (below row (k + 1) (k + 0) (omega arith))
+row-is (false ∷ row) k (suc i) = let e : k + suc i ≡ k + 1 + i = omega arith in rw e (row-is row (k + 1) i)
+
+at-type : (row : List Bool) (type : ℕ) → getD row type false ≡ isOneOf type (typesIn 0 row)
+at-type row type = row-is row 0 type ∙ ap (λ (n : ℕ). isOneOf n (typesIn 0 row)) (zero-add type)
+
+-- "is a table of three rows and fourteen columns; awaiting permits 1 only, open permits 2, 4, 6, 9, 11, 13"
+pub permitted-types : (s type : ℕ) → permits s type ≡ isOneOf type (permittedTypes s)
+unfolding typesIn
+permitted-types zero type = at-type (getD permitted 0 []) type
+permitted-types (suc zero) type = at-type (getD permitted 1 []) type
+permitted-types (suc (suc zero)) type = at-type (getD permitted 2 []) type
+permitted-types (suc (suc (suc s))) type =
+    rw (ne-eqb (suc (suc (suc s))) 1 (λ e. omega arith), ne-eqb (suc (suc (suc s))) 2 (λ e. omega arith)) (at-type [] type)
+
+pub table-shape : map length permitted ≡ 14 ∷ 14 ∷ 14 ∷ []
+table-shape = refl
 
 -- ---- each check
 
@@ -36,9 +71,12 @@ right-sizes tables =
     )
 
 read-exactly : (m : List ℕ) → (fromPeer m ≡ true) ↔ SentByPeer m
-unfolding fromPeer
-read-exactly m = and-exactly (getD sentByPeers (typeOf m) false) (isSome (decode m)) ((λ h. h), (λ h. h)) (go (decode m))
+unfolding fromPeer typesIn
+read-exactly m = and-exactly (getD sentByPeers (typeOf m) false) (isSome (decode m)) peers (go (decode m))
   where
+    peers : (getD sentByPeers (typeOf m) false ≡ true) ↔ (isOneOf (typeOf m) (1 ∷ 2 ∷ 4 ∷ 6 ∷ 9 ∷ 11 ∷ 13 ∷ []) ≡ true)
+    peers = let e = at-type sentByPeers (typeOf m) in ((λ h. sym e ∙ h), (λ h. e ∙ h))
+
     go : (o : Option Message) → (isSome o ≡ true) ↔ ((x : Message) × (o ≡ some x))
     go none = ((λ h. absurd (false≢true h)), (λ q. absurd (let z : _≡_ {A = ℕ} 0 1 = cc (q .1) in omega arith)))
     go (some x) = ((λ h. (x, refl)), (λ q. refl))
@@ -77,7 +115,8 @@ module _ (tables : Tables) where
   permitted-exactly : (call : Call) → (notPermitted cs call ≡ true) ↔ NotPermittedHere cs call
   unfolding notPermitted
   permitted-exactly (opening now c reply) = never
-  permitted-exactly (message now c m random reply relay) = false-exactly (permits (state cs c) (typeOf m))
+  permitted-exactly (message now c m random reply relay) =
+      rw (permitted-types (state cs c) (typeOf m)) (false-exactly (isOneOf (typeOf m) (permittedTypes (state cs c))))
   permitted-exactly (closing now c relay) = never
 
   without-exactly : (call : Call) → (noSession cs call ≡ true) ↔ WithoutSession cs call
@@ -100,12 +139,6 @@ module _ (tables : Tables) where
     eight = without-exactly call;
     nine = lt-exactly _ (cost call);
   }
-
--- "awaiting permits 1 only, open permits 2, 4, 6, 9, 11, 13": the table of three rows and fourteen columns
-pub permitted-types :
-    (map (typesIn 0) permitted ≡ [] ∷ (1 ∷ []) ∷ (2 ∷ 4 ∷ 6 ∷ 9 ∷ 11 ∷ 13 ∷ []) ∷ []) × (map length permitted ≡ 14 ∷ 14 ∷ 14 ∷ [])
-unfolding typesIn
-permitted-types = (refl, refl)
 
 -- ---- "the first that applies decides"
 

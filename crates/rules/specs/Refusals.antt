@@ -2,17 +2,19 @@
 use Prim.Native.Nat.{ℕ, _-_, _≤_, _<_, max}
 use mathlib.Core.Path.{_≡_}
 use mathlib.Core.Logic.{_≢_, _⊎_, _↔_}
-use mathlib.Core.Bool.{true, false}
+use mathlib.Core.Bool.{Bool, true, false, _||_}
 use mathlib.Core.Option.{some}
-use mathlib.Core.List.{List}
+use mathlib.Core.List.{List, [], _∷_}
+use lib.Dec.{eqb}
 use lib.ListN.{length, getD}
-use Rattle.svsc.specs.Messages.{Message, sentByPeers, typeOf, decode}
+use Rattle.octets.specs.Octets.{if_then_else_}
+use Rattle.svsc.specs.Messages.{Message, typeOf, decode}
 use Rattle.allowance.specs.Bucket.{levelNow}
 use Rattle.rules.specs.Sizes.{connectionCount, connectionsSize, leasesSize, allowancesSize, timeLimit, randomBytes, leastBuffer}
 use Rattle.rules.specs.Tables.{Tables, closed, state, inSession, bucketOf, clock}
 use Rattle.rules.specs.Calls.{Call, opening, message, closing, timeOf, connectionOf, callerOf, Answer}
 use Rattle.rules.specs.Charges.{cost}
-use Rattle.rules.specs.Checks.{permits, checks}
+use Rattle.rules.specs.Checks.{checks}
 
 -- check n applies to the call, n from 1 to 9
 abbrev pub Applies : ℕ → Tables → Call → Type 0
@@ -37,20 +39,27 @@ OfWrongLengths (message now c m random reply relay) =
     ((length random ≢ randomBytes) ⊎ (length reply < leastBuffer)) ⊎ (length relay < max leastBuffer (length m))
 OfWrongLengths (closing now c relay) = length relay < leastBuffer
 
--- 6: "not a message that peers send, per the table above": there is a message of these bytes, and its type is one of 1, 2, 4, 6, 9, 11, 13
--- (svsc, law `peers-send`)
+-- a number is one of a list
+unfoldable pub isOneOf : ℕ → List ℕ → Bool
+isOneOf n [] = false
+isOneOf n (x ∷ xs) = eqb n x || isOneOf n xs
+
+-- 6: "not a message that peers send, per the table above"; "Peers send 1, 2, 4, 6, 9, 11, 13."
 abbrev pub SentByPeer : List ℕ → Type 0
-SentByPeer m = (getD sentByPeers (typeOf m) false ≡ true) × ((x : Message) × (decode m ≡ some x))
+SentByPeer m = (isOneOf (typeOf m) (1 ∷ 2 ∷ 4 ∷ 6 ∷ 9 ∷ 11 ∷ 13 ∷ []) ≡ true) × ((x : Message) × (decode m ≡ some x))
 
 abbrev pub NotSentByPeer : Call → Type 0
 NotSentByPeer (opening now c reply) = ⊥
 NotSentByPeer (message now c m random reply relay) = SentByPeer m → ⊥
 NotSentByPeer (closing now c relay) = ⊥
 
--- 7: "not permitted in this state" (law `permitted-types`)
+-- 7: "not permitted in this state: .. awaiting permits 1 only, open permits 2, 4, 6, 9, 11, 13"
+abbrev pub permittedTypes : ℕ → List ℕ
+permittedTypes s = if eqb s 1 then 1 ∷ [] else if eqb s 2 then 2 ∷ 4 ∷ 6 ∷ 9 ∷ 11 ∷ 13 ∷ [] else []
+
 abbrev pub NotPermittedHere : List ℕ → Call → Type 0
 NotPermittedHere cs (opening now c reply) = ⊥
-NotPermittedHere cs (message now c m random reply relay) = permits (state cs c) (typeOf m) ≡ false
+NotPermittedHere cs (message now c m random reply relay) = isOneOf (typeOf m) (permittedTypes (state cs c)) ≡ false
 NotPermittedHere cs (closing now c relay) = ⊥
 
 -- 8: "type 9 or 11 without a session"
