@@ -27,6 +27,10 @@ pub record Example : Type 0 where
 abbrev pub Holds : List Example → Type 0
 Holds table = map (λ (e : Example). e .given) table ≡ map (λ (e : Example). e .said) table
 
+-- the rows' numbers
+abbrev pub numbers : List Example → List ℕ
+numbers table = map (λ (e : Example). e .number) table
+
 abbrev row : ℕ → List ℕ → List ℕ → Example
 row number given said = record { number = number; given = given; said = said }
 

@@ -1,28 +1,39 @@
--- What each call costs, in 01's numbers. Assumes nothing.
+-- Which calls are charged, and what each costs, in 01's numbers. Assumes nothing.
 use Prim.Native.Nat.{ℕ, _+_}
 use mathlib.Core.Path.{_≡_, refl}
-use mathlib.Core.Logic.{_≢_}
+use mathlib.Core.Logic.{_≢_, _↔_}
+use mathlib.Core.Bool.{true, false}
 use mathlib.Core.List.{List}
 use lib.ListN.{length}
 use borrow.Author.Tests.{eq-eqb, ne-eqb}
 use Rattle.svsc.specs.Messages.{typeOf}
 use Rattle.rules.specs.Calls.{opening, message, closing}
-use Rattle.rules.specs.Charges.{cost}
+use Rattle.rules.specs.Charges.{charged, cost}
+use Rattle.rules.proofs.Exactly.{eq-exactly, not-exactly}
+
+-- "Opens and messages other than SessionEnd are charged"
+pub open-charged : (now c : ℕ) (reply : List ℕ) → charged (opening now c reply) ≡ true
+open-charged now c reply = refl
+
+pub message-charged : (now c : ℕ) (m random reply relay : List ℕ) → (charged (message now c m random reply relay) ≡ true) ↔ (typeOf m ≢ 9)
+message-charged now c m random reply relay = not-exactly _ (eq-exactly (typeOf m) 9)
+
+pub close-free : (now c : ℕ) (relay : List ℕ) → charged (closing now c relay) ≡ false
+close-free now c relay = refl
 
 -- "A message costs 32 plus its length; an open costs 32; SessionEnd, close .. cost nothing."
-module _ (now c : ℕ) (m random reply relay : List ℕ) where
-  pub session-end-cost : typeOf m ≡ 9 → cost (message now c m random reply relay) ≡ 0
-  unfolding cost
-  session-end-cost e = rw (eq-eqb (typeOf m) 9 e)
+pub open-cost : (now c : ℕ) (reply : List ℕ) → cost (opening now c reply) ≡ 32
+unfolding cost
+open-cost now c reply = refl
 
-  pub message-cost : typeOf m ≢ 9 → cost (message now c m random reply relay) ≡ 32 + length m
-  unfolding cost
-  message-cost n = rw (ne-eqb (typeOf m) 9 n)
+pub message-cost : (now c : ℕ) (m random reply relay : List ℕ) → typeOf m ≢ 9 → cost (message now c m random reply relay) ≡ 32 + length m
+unfolding cost
+message-cost now c m random reply relay n = rw (ne-eqb (typeOf m) 9 n)
 
-  pub open-cost : cost (opening now c reply) ≡ 32
-  unfolding cost
-  open-cost = refl
+pub session-end-cost : (now c : ℕ) (m random reply relay : List ℕ) → typeOf m ≡ 9 → cost (message now c m random reply relay) ≡ 0
+unfolding cost
+session-end-cost now c m random reply relay e = rw (eq-eqb (typeOf m) 9 e)
 
-  pub close-cost : cost (closing now c relay) ≡ 0
-  unfolding cost
-  close-cost = refl
+pub close-cost : (now c : ℕ) (relay : List ℕ) → cost (closing now c relay) ≡ 0
+unfolding cost
+close-cost now c relay = refl

@@ -1,19 +1,26 @@
--- "only type 1 with ok 0 hangs up": every other plan leaves the caller connected. Assumes nothing.
+-- "only type 1 with ok 0 hangs up": every other plan leaves the caller connected, and that one does not. Assumes nothing.
 use Prim.Native.Nat.{ℕ}
-use mathlib.Core.Path.{_≡_, refl}
-use mathlib.Core.Logic.{_≢_}
-use mathlib.Core.Bool.{false}
+use mathlib.Core.Path.{_≡_, refl, sym, ap, _∙_}
+use mathlib.Core.Logic.{_≢_, ⊎-elim, _↔_}
+use mathlib.Core.Bool.{true, false, false≢true}
+use mathlib.Core.Option.{some}
 use mathlib.Core.List.{List}
+use native.Mathlib.Omega.{arith}
+use native.Mathlib.Decide.{ℕ-discrete}
 use lib.Dec.{ltb}
+use Rattle.svsc.specs.Messages.{VersionAnswer, typeOf, decode}
 use Rattle.rules.specs.Tables.{Tables, partnerOf}
 use Rattle.rules.specs.Leases.{LeaseDecision, holdsLease, noSpareRow, cookieInUse, noFreeId, granted, decideLease, rowToExtend}
 use Rattle.rules.specs.Searches.{endRow}
 use Rattle.rules.specs.Sessions.{EstablishDecision, refusedWith, establishedWith, decideEstablish}
 use Rattle.rules.specs.Plans.{Plan, planOpen, planLease, planExtension, planEstablish, planEnd, planData, planClose}
-use Rattle.rules.specs.Calls.{Call, timeOf, connectionOf}
+use Rattle.rules.specs.Calls.{Call, opening, message, closing, timeOf, connectionOf, Answer}
 use Rattle.rules.specs.Charges.{received}
 use Rattle.rules.specs.Step.{step, done}
-use Rattle.rules.specs.Laws.{Accepted}
+use Rattle.rules.specs.Laws.{Accepted, RefusesVersion}
+use Rattle.rules.proofs.Checks.{from-peer}
+use Rattle.rules.proofs.Messages.{by-type}
+use Rattle.rules.proofs.MessageLaws.{answered-ok, answered-not-ok}
 use Rattle.rules.proofs.Answers.{is-done, done-passed}
 use Rattle.rules.proofs.Plans.{Each, kindOf, every-plan, by-test}
 
@@ -49,10 +56,37 @@ module _ (tables : Tables) (now c n kind : ℕ) (other : kind ≢ 1) where
     close-plan = refl;
   }
 
--- The host disconnects the caller after a version answer alone.
-pub stays-connected : (tables : Tables) (call : Call) → Accepted tables call → kindOf call ≢ 1
-    → step tables call .answer .disconnect ≡ false
+stays-connected : (tables : Tables) (call : Call) → Accepted tables call → kindOf call ≢ 1 → step tables call .answer .disconnect ≡ false
 unfolding done
 stays-connected tables call e n =
     let each = each-stays tables (timeOf call) (connectionOf call) (received call) (kindOf call) n in
     rw (is-done tables call e) (every-plan _ tables call (done-passed tables call e) each)
+
+-- The caller is disconnected exactly by a version answer of 0.
+pub disconnected-exactly : (tables : Tables) (call : Call) → Accepted tables call
+    → (step tables call .answer .disconnect ≡ true) ↔ RefusesVersion call
+disconnected-exactly tables (opening now c reply) e = (
+  (λ h. false≢true (sym (stays-connected tables (opening now c reply) e (λ z. omega arith)) ∙ h)),
+  (λ x. absurd x),
+)
+disconnected-exactly tables (message now c m random reply relay) e = (
+  (λ h. refuses h (ℕ-discrete (typeOf m) 1)),
+  (λ d. ap (λ (a : Answer). a .disconnect) (answered-not-ok tables now c m random reply relay e d .sent .answer)),
+)
+  where
+    sent : Call
+    sent = message now c m random reply relay
+
+    refuses : step tables sent .answer .disconnect ≡ true → Dec (typeOf m ≡ 1) → decode m ≡ some (VersionAnswer 0)
+    refuses h (yes t) =
+        ⊎-elim (λ d. d)
+        (λ d.
+        absurd
+        (false≢true
+        (sym (ap (λ (a : Answer). a .disconnect) (answered-ok tables now c m random reply relay e d .sent .answer)) ∙ h)))
+        (by-type m (from-peer tables now c m random reply relay (done-passed tables sent e)) .one t)
+    refuses h (no n) = absurd (false≢true (sym (stays-connected tables sent e n) ∙ h))
+disconnected-exactly tables (closing now c relay) e = (
+  (λ h. false≢true (sym (stays-connected tables (closing now c relay) e (λ z. omega arith)) ∙ h)),
+  (λ x. absurd x),
+)

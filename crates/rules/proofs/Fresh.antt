@@ -1,6 +1,6 @@
 -- Fresh tables as 01 draws them, byte by byte. Assumes nothing.
 use Prim.Native.Nat.{ℕ, zero, suc, _+_, _*_, _<_}
-use mathlib.Core.Path.{_≡_, refl, sym, ap, _∙_}
+use mathlib.Core.Path.{_≡_, refl, sym, ap, ap₂, _∙_}
 use mathlib.Core.List.{List, [], _∷_, _++_, append-nil}
 use native.Mathlib.Omega.{arith}
 use native.Mathlib.Decide.{ℕ-discrete}
@@ -9,12 +9,12 @@ use lib.ListN.{length, replicate}
 use borrow.Author.Tests.{eq-eqb, ne-eqb}
 use Rattle.octets.specs.Octets.{if_then_else_, byteAt, numberFrom, number, part, numberAt, bigEndian}
 use Rattle.rules.specs.Sizes.{partners, connectionCount, rowCount, leaseBytes, timeLimit}
-use Rattle.rules.specs.Tables.{allowanceAt, leaseAt, bucketOf, records, freshConnection, freshLease, bucketBytes, fresh}
+use Rattle.rules.specs.Tables.{allowanceAt, leaseAt, bucketOf, clock, records, freshConnection, freshLease, bucketBytes, fresh}
 use Rattle.rules.specs.Effects.{FreshBut}
 use Rattle.rules.specs.Refusals.{RightSizes}
 use Rattle.rules.proofs.Records.{byte-part}
 use Rattle.rules.proofs.Connections.{fresh-record}
-use Rattle.rules.proofs.Allowances.{part-records, fresh-bucket}
+use Rattle.rules.proofs.Allowances.{part-records, fresh-bucket, fresh-clock}
 
 -- each of several equal records, with nothing behind them
 whole-record : (r : List ℕ) (count k : ℕ) → k < count → part (records count r) (length r * k) (length r) ≡ part r 0 (length r)
@@ -52,14 +52,18 @@ fresh-row now r h i l =
     ∙ ap (λ (x : List ℕ). byteAt x i) (whole-record freshLease rowCount r h)
     ∙ one-byte 12 255 27 i
 
+level-zero : (now : ℕ) → numberAt (fresh now .allowances) (allowanceAt partners) 8 ≡ 0
+unfolding fresh numberAt number numberFrom records bucketBytes bigEndian part
+level-zero now = refl
+
 -- "the eight partners' levels 262,144, the ninth 0, every moment t"
 pub fresh-allowance : (now p : ℕ) → now < timeLimit → p < partners
     → bucketOf (fresh now .allowances) p ≡ record { level = 262144; updated = now }
 fresh-allowance now p t h = fresh-bucket now t p h
 
-pub fresh-ninth : (now : ℕ) → numberAt (fresh now .allowances) (allowanceAt partners) 8 ≡ 0
-unfolding fresh numberAt number numberFrom records bucketBytes bigEndian part
-fresh-ninth now = refl
+pub fresh-ninth : (now : ℕ) → now < timeLimit → bucketOf (fresh now .allowances) partners ≡ record { level = 0; updated = now }
+unfolding bucketOf clock
+fresh-ninth now h = ap₂ (λ (l u : ℕ). record { level = l; updated = u }) (level-zero now) (fresh-clock now h)
 
 -- and no byte more
 pub fresh-sizes : (now : ℕ) → RightSizes (fresh now)

@@ -5,11 +5,12 @@ use mathlib.Core.Path.{_≡_, refl}
 use mathlib.Core.Logic.{_≢_, _⊎_, inl, inr}
 use mathlib.Core.Bool.{Bool, true, false}
 use mathlib.Core.Option.{Option, none, some}
-use mathlib.Core.List.{List}
+use mathlib.Core.List.{List, [], _∷_}
 use native.Mathlib.Omega.{arith}
 use lib.ListN.{length, length-append, length-take, length-drop}
 use Rattle.octets.specs.Octets.{if_then_else_, part, numberAt}
 use Rattle.svsc.specs.Messages.{Message, VersionAnswer, LeaseRequest, LeaseRequestWithCookie, ExtensionRequest, EstablishRequest, SessionEnd, DataSend, Keepalive, ProtocolVersion, LeaseRefused, LeaseGranted, ExtensionRefused, ExtensionGranted, EstablishRefused, Established, EstablishNotification, SessionEndNotification, DataReceive, encode, lengthIs, when, readings, decode, typeOf}
+use Rattle.allowance.specs.Meter as meter
 use Rattle.rules.specs.Tables.{Tables}
 use Rattle.rules.specs.Calls.{Call, message, Outcome}
 use Rattle.rules.specs.Sessions.{EstablishDecision, refusedWith, establishedWith, decideEstablish}
@@ -17,6 +18,7 @@ use Rattle.rules.specs.Plans.{Plan, doNothing, planEstablish, planMessag
 use Rattle.rules.specs.Charges.{cost, price, callerLevel, charge}
 use Rattle.rules.specs.Checks.{wrongTime, wrongState, wrongLengths, notFromPeer, notPermitted, noSession, aboveLevel, firstEight, checks, check}
 use Rattle.rules.specs.Step.{outcome, done, step}
+use Rattle.rules.specs.Runs.{after}
 use Rattle.rules.specs.Bytes.{SameAt}
 use Rattle.rules.specs.Reading.{NotKeys, SameButKeys, SameTold}
 use Rattle.rules.proofs.Messages.{decode-type}
@@ -25,7 +27,7 @@ use Rattle.rules.proofs.SamePlans.{Alike, check-same, plan-same, sends-
 
 -- ---- what stands in a record
 
--- Bytes 16-63 of connection records never influence an answer or a buffer, nor any other byte of the tables: of one call, and so of a run.
+-- Bytes 16-63 of connection records never influence an answer or a buffer, nor any other byte of the tables.
 module _ (a b : Tables) (call : Call) (same : SameButKeys a b) where
   alike : Alike (λ q. Unit {0}) NotKeys a b call
   alike = record {
@@ -50,6 +52,12 @@ module _ (a b : Tables) (call : Call) (same : SameButKeys a b) where
             record { connections = x .connections; leases = same-all (x .leases); allowances = rw (same .allowances) },
           )
       go (suc n) = (record { answer = refl; reply = refl; relay = refl }, same)
+
+-- nor those of any later call
+pub keys-not-read-later : (calls : List Call) (a b : Tables) → SameButKeys a b → SameButKeys (after a calls) (after b calls)
+unfolding meter.after
+keys-not-read-later [] a b same = same
+keys-not-read-later (call ∷ calls) a b same = keys-not-read-later calls _ _ (keys-not-read a b call same .1)
 
 -- ---- the random bytes
 

@@ -1,15 +1,16 @@
--- The laws that a reader wants of every call and every run; those of single messages and of a close are in MessageLaws. Assumes nothing.
-use Prim.Native.Nat.{ℕ, zero, suc, _+_, _≤_, _<_}
-use mathlib.Core.Path.{_≡_, refl, sym}
-use mathlib.Core.Logic.{_≢_, _⊎_, inl, inr, ⊎-elim, _↔_}
+-- The laws that a reader wants of every call and every run; those of single effects are in CallLaws and MessageLaws. Assumes nothing.
+use Prim.Native.Nat.{ℕ, zero, suc, _+_, _-_, _≤_, _<_}
+use mathlib.Core.Path.{_≡_, refl, sym, _∙_}
+use mathlib.Core.Logic.{_≢_, _⊎_, ⊎-elim, _↔_}
 use mathlib.Core.Bool.{Bool, true, false}
 use mathlib.Core.List.{List, [], _∷_, _++_}
 use native.Mathlib.Omega.{arith}
 use native.Mathlib.Decide.{ℕ-discrete}
+use borrow.Author.Tests.{eq-eqb}
 use Rattle.octets.specs.Octets.{if_then_else_, bigEndian, numberAt}
 use Rattle.allowance.specs.Bucket.{Bucket, levelNow}
 use Rattle.allowance.specs.History.{levelFromHistory, latest, NonePaid}
-use Rattle.rules.specs.Sizes.{partners, allowanceBytes, nobody}
+use Rattle.rules.specs.Sizes.{partners, nobody}
 use Rattle.rules.specs.Tables.{Tables, allowanceAt, updatedAt, bucketBytes, setBucket, setClock, inSession, bucketOf, clock, fresh}
 use Rattle.rules.specs.Calls.{Call, timeOf, connectionOf, callerOf, Outcome}
 use Rattle.rules.specs.Plans.{plan}
@@ -17,14 +18,14 @@ use Rattle.rules.specs.Charges.{charged, received, cost, price, charge}
 use Rattle.rules.specs.Checks.{precheck, checkStart}
 use Rattle.rules.specs.Step.{step, done, start, started}
 use Rattle.rules.specs.Runs.{after, history}
-use Rattle.rules.specs.Bytes.{ChangedOnly, InField}
-use Rattle.rules.specs.Laws.{Accepted, Unchanged, WithinPartner, DistinctIds, SpareZero}
+use Rattle.rules.specs.Bytes.{ChangedOnly}
+use Rattle.rules.specs.Laws.{Accepted, Unchanged, WithinPartner, InAllowance, InClock, DistinctIds, SpareZero}
 use Rattle.rules.proofs.Checks.{Passed, passed}
 use Rattle.rules.proofs.Answers.{refused-leaves-all, is-done, done-passed}
-use Rattle.rules.proofs.Metered.{clock-takes-time}
+use Rattle.rules.proofs.Metered.{clock-takes-time, bucket-stored}
 use Rattle.rules.proofs.Demand3.{started-fresh, relay-demand3}
-use Rattle.rules.proofs.Same.{same-refl, same-trans, same-number}
-use Rattle.rules.proofs.Changes.{changed-at}
+use Rattle.rules.proofs.Same.{same-refl, same-number}
+use Rattle.rules.proofs.Changes.{changed-at, changed-both}
 use Rattle.rules.proofs.Rows.{distinct-later, distinct-fresh}
 use Rattle.rules.proofs.Plans.{kindOf, every-plan}
 use Rattle.rules.proofs.Within.{each-within}
@@ -39,6 +40,15 @@ module _ (tables : Tables) (now : ℕ) where
   pub started-is-fresh : start tables now .answer .number ≡ 0 → start tables now .tables ≡ fresh now
   started-is-fresh = started-fresh tables now
 
+  -- It is lent no buffer, and has nothing for one.
+  pub start-sends-nothing : (start tables now .reply ≡ []) × (start tables now .relay ≡ [])
+  unfolding start
+  start-sends-nothing = go (checkStart tables now)
+    where
+      go : (k : ℕ) → (started k tables now .reply ≡ []) × (started k tables now .relay ≡ [])
+      go zero = (refl, refl)
+      go (suc k) = (refl, refl)
+
   pub refused-start-changes-nothing : start tables now .answer .number ≢ 0 → start tables now .tables ≡ tables
   unfolding start
   refused-start-changes-nothing n = go (checkStart tables now) n
@@ -52,10 +62,6 @@ module _ (tables : Tables) (now : ℕ) where
 module _ (tables : Tables) (call : Call) where
   abbrev o : Outcome
   o = step tables call
-
-  -- the places of the caller's allowance record, and of the clock
-  abbrev OwnAllowance : ℕ → Type 0
-  OwnAllowance i = InField allowanceBytes (callerOf call) 0 allowanceBytes i ⊎ InField allowanceBytes partners 8 8 i
 
   -- A refused call changes no byte, sends nothing and names no destination.
   pub refused-changes-nothing : o .answer .number ≢ 0 → Unchanged tables call o
@@ -80,23 +86,26 @@ module _ (tables : Tables) (call : Call) where
           (refused-leaves-all tables call n)
           (record { connections = λ c n. refl; leases = λ r n. refl; destination = λ n. absurd (n refl) })
 
+  abbrev charged-table : List ℕ
+  charged-table = charge (tables .allowances) call (price tables call)
+
+  at-clock : ChangedOnly InClock charged-table (setClock charged-table (timeOf call))
+  unfolding bigEndian
+  at-clock = changed-at charged-table (updatedAt partners) (bigEndian 8 (timeOf call)) (λ i l u. (l, u))
+
   -- Of the allowance table it changes its partner's record and the clock alone.
-  pub own-allowance-only : ChangedOnly OwnAllowance (tables .allowances) (o .tables .allowances)
+  pub own-allowance-only : ChangedOnly (λ i. InAllowance (callerOf call) i ⊎ InClock i) (tables .allowances) (o .tables .allowances)
   unfolding done charge bucketBytes bigEndian
   own-allowance-only = go (ℕ-discrete (o .answer .number) 0)
     where
-      charged-table : List ℕ
-      charged-table = charge (tables .allowances) call (price tables call)
-
-      at-clock : ChangedOnly OwnAllowance charged-table (setClock charged-table (timeOf call))
-      at-clock = changed-at charged-table (updatedAt partners) (bigEndian 8 (timeOf call)) (λ i l u. inr (l, u))
-
-      at-record : (k : Bool) (b : Bucket) → ChangedOnly OwnAllowance (tables .allowances) (if k then setBucket (tables .allowances) (callerOf call) b else tables .allowances)
-      at-record true b = changed-at (tables .allowances) (allowanceAt (callerOf call)) (bucketBytes b) (λ i l u. inl (omega arith, omega arith))
+      at-record : (k : Bool) (b : Bucket)
+          → ChangedOnly (InAllowance (callerOf call)) (tables .allowances)
+          (if k then setBucket (tables .allowances) (callerOf call) b else tables .allowances)
+      at-record true b = changed-at (tables .allowances) (allowanceAt (callerOf call)) (bucketBytes b) (λ i l u. (omega arith, omega arith))
       at-record false b = same-refl (tables .allowances)
 
-      go : Dec (Accepted tables call) → ChangedOnly OwnAllowance (tables .allowances) (o .tables .allowances)
-      go (yes e) = rw (is-done tables call e) (same-trans (at-record (charged call) _) at-clock)
+      go : Dec (Accepted tables call) → ChangedOnly (λ i. InAllowance (callerOf call) i ⊎ InClock i) (tables .allowances) (o .tables .allowances)
+      go (yes e) = rw (is-done tables call e) (changed-both (at-record (charged call) _) at-clock)
       go (no m) = rw (refused-leaves-all tables call m) (same-refl (tables .allowances))
 
   -- The ninth level stays what it was.
@@ -120,6 +129,20 @@ module _ (tables : Tables) (call : Call) where
     relays =
         let each = each-relays tables (timeOf call) (connectionOf call) (ok .connections) (ok .known) (received call) (kindOf call) in
         every-plan _ tables call (done-passed tables call e) each
+
+    -- "A done charged call stores the level left and its reading as moment"; a free one changes the clock alone.
+    pub charge-stored : charged call ≡ true
+        → bucketOf (o .tables .allowances) (callerOf call)
+        ≡ record {
+          level = levelNow (bucketOf (tables .allowances) (callerOf call)) (timeOf call) - cost call;
+          updated = timeOf call;
+        }
+    unfolding price
+    charge-stored k = bucket-stored tables call e (callerOf call) (ok .of-partner) ∙ rw (k, eq-eqb (callerOf call) (callerOf call) refl)
+
+    pub free-stays : charged call ≡ false → ChangedOnly InClock (tables .allowances) (o .tables .allowances)
+    unfolding done charge
+    free-stays k = rw (is-done tables call e, k) (rw k at at-clock)
 
     -- "With nothing in the relay tray the destination is 255."
     pub nothing-to-nobody : o .answer .relayLength ≡ 0 → o .answer .destination ≡ nobody

@@ -165,7 +165,7 @@ module _ (ls : List ℕ) (now c : ℕ) (random : List ℕ) where
 -- ---- Extension
 
 module _ (ls : List ℕ) (now c : ℕ) (cookie : List ℕ) where
-  abbrev pub extends : ℕ → Bool
+  abbrev extends : ℕ → Bool
   extends r = live ls now r && eqb (holder ls r) c && same (cookieOf ls r) cookie
 
   pub extension-exactly : (ltb (rowToExtend ls now c cookie) (endRow (partnerOf c)) ≡ true) ↔ Extendable ls now c cookie
@@ -194,7 +194,7 @@ lowest-own p f = record {
 }
 
 pub row-to-extend-lowest : (ls : List ℕ) (now c : ℕ) (cookie : List ℕ)
-    → LowestOwn (partnerOf c) (extends ls now c cookie) (rowToExtend ls now c cookie)
+    → LowestOwn (partnerOf c) (λ r. live ls now r && eqb (holder ls r) c && same (cookieOf ls r) cookie) (rowToExtend ls now c cookie)
 unfolding rowToExtend
 row-to-extend-lowest ls now c cookie = lowest-own (partnerOf c) (extends ls now c cookie)
 

@@ -11,9 +11,10 @@ use native.Mathlib.Omega.{arith}
 use lib.Dec.{eqb, leb, lit≤}
 use lib.ListN.{length, getD, drop}
 use borrow.Author.Tests.{eqb-true, leb-true}
-use Rattle.octets.specs.Octets.{byteAt, part}
+use Rattle.octets.specs.Octets.{byteAt, part, numberAt}
 use Rattle.octets.proofs.Tests.{both-left, both-right}
-use Rattle.svsc.specs.Messages.{Message, LeaseRequest, LeaseRequestWithCookie, SessionEnd, DataSend, longestMessage, encode, typeOf, when, _orElse_, readings, decode, isSome, sentByPeers, fromPeer}
+use Rattle.svsc.specs.Messages.{Message, VersionAnswer, LeaseRequest, LeaseRequestWithCookie, ExtensionRequest, EstablishRequest, SessionEnd, DataSend, Keepalive, longestMessage, encode, typeOf, when, _orElse_, readings, decode, isSome, sentByPeers, fromPeer}
+use Rattle.rules.specs.Layout.{ByType}
 
 module _ (m : List ℕ) where
   -- What is read in the row k of the table.
@@ -119,12 +120,23 @@ module _ (m : List ℕ) where
   when-some true x h = refl
   when-some false x h = absurd (false≢true h)
 
+  fits-some : (fits : Bool) (x : Message) → isSome (when fits x) ≡ true → fits ≡ true
+  fits-some true x h = refl
+  fits-some false x h = absurd (false≢true h)
+
   row-read : (k : ℕ) (fits : Bool) (x : Message) → fromPeer m ≡ true → typeOf m ≡ k → getD (readings m) k none ≡ when fits x
       → decode m ≡ some x
   unfolding fromPeer decode
   row-read k fits x h t r =
       let e : decode m ≡ when fits x = ap (λ (i : ℕ). getD (readings m) i none) t ∙ r in
       e ∙ when-some fits x (ap isSome (sym e) ∙ both-right (getD sentByPeers (typeOf m) false) (isSome (decode m)) h)
+
+  -- a test that passes, of the one form that a type has
+  fits-read : (k : ℕ) (fits : Bool) (x : Message) → fromPeer m ≡ true → typeOf m ≡ k → getD (readings m) k none ≡ when fits x → fits ≡ true
+  unfolding fromPeer decode
+  fits-read k fits x h t r =
+      let e : decode m ≡ when fits x = ap (λ (i : ℕ). getD (readings m) i none) t ∙ r in
+      fits-some fits x (ap isSome (sym e) ∙ both-right (getD sentByPeers (typeOf m) false) (isSome (decode m)) h)
 
   pub end-read : fromPeer m ≡ true → typeOf m ≡ 9 → decode m ≡ some SessionEnd
   unfolding readings
@@ -155,6 +167,33 @@ module _ (m : List ℕ) where
       LeaseRequestWithCookie
       (part m 2 24)
       known)
+
+  -- the version answer
+  answer-read : fromPeer m ≡ true → typeOf m ≡ 1 → (decode m ≡ some (VersionAnswer 0)) ⊎ (decode m ≡ some (VersionAnswer 1))
+  unfolding readings
+  answer-read h t =
+      let test = eqb (length m) 2 && leb (byteAt m 1) 1 in
+      let fits = fits-read 1 test (VersionAnswer (byteAt m 1)) h t refl in
+      go (byteAt m 1) (leb-true (byteAt m 1) 1 (both-right (eqb (length m) 2) _ fits)) (row-read 1 test (VersionAnswer (byteAt m 1)) h t refl)
+    where
+      go : (ok : ℕ) → ok ≤ 1 → decode m ≡ some (VersionAnswer ok)
+          → (decode m ≡ some (VersionAnswer 0)) ⊎ (decode m ≡ some (VersionAnswer 1))
+      go zero l e = inl e
+      go (suc zero) l e = inr e
+      go (suc (suc ok)) l e = absurd (omega arith)
+
+  -- Each type that peers send has its form.
+  pub by-type : fromPeer m ≡ true → ByType m
+  unfolding readings
+  by-type h = record {
+    one = answer-read h;
+    two = lease-read h;
+    four = λ t. row-read 4 (eqb (length m) 25) (ExtensionRequest (part m 1 24)) h t refl;
+    six = λ t. row-read 6 (eqb (length m) 5) (EstablishRequest (numberAt m 1 4)) h t refl;
+    nine = end-read h;
+    eleven = data-read h;
+    thirteen = λ t. row-read 13 (eqb (length m) 1) Keepalive h t refl;
+  }
 
 -- the data of a message is all of it but the type
 pub data-length : (m bytes : List ℕ) → decode m ≡ some (DataSend bytes) → suc (length bytes) ≡ length m

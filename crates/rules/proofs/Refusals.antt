@@ -81,9 +81,9 @@ read-exactly m = and-exactly (getD sentByPeers (typeOf m) false) (isSome (decode
     go none = ((λ h. absurd (false≢true h)), (λ q. absurd (let z : _≡_ {A = ℕ} 0 1 = cc (q .1) in omega arith)))
     go (some x) = ((λ h. (x, refl)), (λ q. refl))
 
-session-exactly : (cs : List ℕ) (c : ℕ) → (not (hasSession cs c) ≡ true) ↔ ((d : ℕ) → inSession cs c d ≡ true → ⊥)
+without-session : (cs : List ℕ) (c : ℕ) → (not (hasSession cs c) ≡ true) ↔ ((d : ℕ) → inSession cs c d ≡ true → ⊥)
 unfolding hasSession
-session-exactly cs c = (
+without-session cs c = (
   (λ h d s. true≢false (sym (session-with cs c d s) ∙ not-true _ h)),
   (λ n. ⊎-elim (λ s. absurd (n _ s)) (λ s. rw s) (by-test (hasSession cs c))),
 )
@@ -123,7 +123,7 @@ module _ (tables : Tables) where
   unfolding noSession
   without-exactly (opening now c reply) = never
   without-exactly (message now c m random reply relay) =
-      and-exactly _ _ (or-exactly _ _ (eq-exactly (typeOf m) 9) (eq-exactly (typeOf m) 11)) (session-exactly cs c)
+      and-exactly _ _ (or-exactly _ _ (eq-exactly (typeOf m) 9) (eq-exactly (typeOf m) 11)) (without-session cs c)
   without-exactly (closing now c relay) = never
 
   pub each-exactly : (call : Call) → EachExactly tables call

@@ -25,7 +25,8 @@ pub lengths :
     (connectionBytes ≡ 64) × (leaseBytes ≡ 40) × (allowanceBytes ≡ 16) × (randomBytes ≡ 80) × (leastBuffer ≡ 64)
 lengths = (refl, refl, refl, refl, refl)
 
--- "c / 8", "16p to 16p+15"; "32 plus its length"; "two seconds"; "reading + 3,600"; "fourteen candidates of four bytes"
+-- eight connections and sixteen rows for each partner; "32 plus its length"; "two seconds"; "reading + 3,600"; "fourteen candidates of four
+-- bytes"
 pub rates :
     (connectionsPerPartner ≡ 8) × (rowsPerPartner ≡ 16) × (callCost ≡ 32) × (retryAfter ≡ 2) × (leaseTerm ≡ 3600)
     × (candidateCount ≡ 14) × (candidateBytes ≡ 4)

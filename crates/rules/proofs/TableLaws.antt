@@ -1,23 +1,52 @@
--- How tables are read, whatever they hold: each test of a record against its sentence of 01, "The board". Assumes nothing.
-use Prim.Native.Nat.{ℕ, _≤_, _<_}
-use mathlib.Core.Path.{_≡_}
+-- How tables are read, whatever they hold: where each field stands, and each test of a record against its sentence of 01, "The board".
+-- Assumes nothing.
+use Prim.Native.Nat.{ℕ, _+_, _*_, _<_}
+use mathlib.Core.Path.{_≡_, refl, ap}
 use mathlib.Core.Logic.{_↔_}
 use mathlib.Core.Bool.{true}
 use mathlib.Core.List.{List}
-use borrow.Author.Tests.{le-leb, lt-leb}
-use Rattle.octets.specs.Octets.{byteAt}
-use Rattle.rules.specs.Tables.{partnerOf, ownerOf, connectionAt, state, inSession, expiry, live, holder, holderCounts}
+use native.Mathlib.Omega.{arith}
+use borrow.Author.Tests.{le-leb, lt-leb, eq-eqb, eqb-true}
+use Rattle.octets.specs.Octets.{byteAt, part}
+use Rattle.rules.specs.Tables.{partnerOf, ownerOf, state, peer, inSession, hasSession, expiry, idOf, live, holder, cookieOf, holderCounts, bucketOf, clock}
+use Rattle.rules.specs.Layout.{ConnectionFields, LeaseFields, AllowanceFields, CallWords}
+use Rattle.rules.specs.Laws.{InSession}
 use Rattle.rules.proofs.Exactly.{eq-exactly, lt-exactly, and-exactly}
-use Rattle.rules.proofs.Connections.{Paired, paired, in-session}
+use Rattle.rules.proofs.Connections.{paired, in-session, session-with}
 
--- "(0 closed, 1 awaiting the version answer, 2 open)"; "State above 2 reads as closed."
-pub state-known : (cs : List ℕ) (c : ℕ) → byteAt cs (connectionAt c) ≤ 2 → state cs c ≡ byteAt cs (connectionAt c)
-unfolding state
-state-known cs c h = rw (le-leb (byteAt cs (connectionAt c)) 2 h)
+-- ---- fields
 
-pub state-above : (cs : List ℕ) (c : ℕ) → 2 < byteAt cs (connectionAt c) → state cs c ≡ 0
+pub connection-fields : (cs : List ℕ) (c : ℕ) → ConnectionFields cs c
 unfolding state
-state-above cs c h = rw (lt-leb (byteAt cs (connectionAt c)) 2 h)
+connection-fields cs c = record {
+  state-known = λ h. rw (le-leb (byteAt cs (64 * c)) 2 h);
+  state-above = λ h. rw (lt-leb (byteAt cs (64 * c)) 2 h);
+  peer-is = refl;
+  session-id-is = refl;
+  peer-id-is = let e : 64 * c + 16 + 16 ≡ 64 * c + 32 = omega arith in ap (λ (at : ℕ). part cs at 16) e;
+  peer-key-is = let e : 64 * c + 16 + 16 + 16 ≡ 64 * c + 48 = omega arith in ap (λ (at : ℕ). part cs at 16) e;
+  of-partner = refl;
+}
+
+pub lease-fields : (ls : List ℕ) (r : ℕ) → LeaseFields ls r
+unfolding expiry idOf cookieOf
+lease-fields ls r = record { expiry-is = refl; id-is = refl; holder-is = refl; cookie-is = refl; of-partner = refl }
+
+pub allowance-fields : (al : List ℕ) (p : ℕ) → AllowanceFields al p
+unfolding bucketOf clock
+allowance-fields al p = record { level-is = refl; updated-is = refl; clock-is = refl }
+
+-- what a call brings
+pub call-words : (now c : ℕ) (m random reply relay : List ℕ) → CallWords now c m random reply relay
+call-words now c m random reply relay = record {
+  times = (refl, refl, refl);
+  connections = (refl, refl, refl);
+  callers = (refl, refl, refl);
+  replies = (refl, refl, refl);
+  relays = (refl, refl, refl);
+}
+
+-- ---- tests
 
 -- "A lease row is live when the reading is below its expiry."
 pub live-exactly : (ls : List ℕ) (now r : ℕ) → (live ls now r ≡ true) ↔ (now < expiry ls r)
@@ -31,5 +60,31 @@ unfolding holderCounts
 holder-exactly cs ls r = and-exactly _ _ (eq-exactly (partnerOf (holder ls r)) (ownerOf r)) (eq-exactly (state cs (holder ls r)) 2)
 
 -- "Two connections are in session exactly if they differ, both are open, are of one partner, and each names the other."
-pub session-exactly : (cs : List ℕ) (c d : ℕ) → (inSession cs c d ≡ true) ↔ Paired cs c d
-session-exactly cs c d = (paired cs c d, in-session cs c d)
+pub in-session-exactly : (cs : List ℕ) (c d : ℕ) → (inSession cs c d ≡ true) ↔ InSession cs c d
+in-session-exactly cs c d = (
+  (λ h.
+      let two = paired cs c d h in
+      record {
+        differ = two .differ;
+        first-open = eqb-true (state cs c) 2 (two .opened-first);
+        second-open = eqb-true (state cs d) 2 (two .opened-second);
+        of-one = two .of-one;
+        names-second = two .names-first;
+        names-first = two .names-second;
+      }),
+  (λ q.
+      in-session cs c d
+      (record {
+        of-one = q .of-one;
+        differ = q .differ;
+        opened-first = eq-eqb (state cs c) 2 (q .first-open);
+        opened-second = eq-eqb (state cs d) 2 (q .second-open);
+        names-first = q .names-second;
+        names-second = q .names-first;
+      })),
+)
+
+-- a connection has a session exactly if it is in session with one
+pub has-session-exactly : (cs : List ℕ) (c : ℕ) → (hasSession cs c ≡ true) ↔ ((d : ℕ) × (inSession cs c d ≡ true))
+unfolding hasSession
+has-session-exactly cs c = ((λ h. (peer cs c, h)), (λ q. session-with cs c (q .0) (q .1)))

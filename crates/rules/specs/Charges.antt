@@ -27,8 +27,8 @@ received (closing now c relay) = 0
 unfoldable pub cost : Call → ℕ
 cost call = if charged call then callCost + received call else 0
 
--- What check 9 compares with the level, and what a done call is charged: the cost (law `price-is-cost`). It is given the tables, and
--- `cost`, which stands in history, is not.
+-- what check 9 compares with the level, and what a done call is charged: the cost, of every call on any tables (law `price-is-cost`). Only
+-- `cost` stands in history, which sees no table
 unfoldable pub price : Tables → Call → ℕ
 price tables call = cost call
 

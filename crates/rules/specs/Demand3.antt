@@ -12,7 +12,7 @@ use Rattle.rules.specs.Runs.{relayMeter, history}
 
 -- `Claim` (allowance, specs/Meter) has a field for each sentence of the demand and of 01, "Charges"; `relayMeter` says what its words
 -- mean: the level is `levelNow` of the partner's allowance record, an answer is that of `step`, "every earlier check" is `precheck`,
--- checks 1 to 8, a call's price is its `cost`, 32 and the bytes received, and any call can be paid after two seconds.
+-- checks 1 to 8, a charged call's price is its `cost`, 32 and the bytes received, and any call can be paid after two seconds.
 pub record RelayDemand3 : Type 0 where
   -- What is compared with the level, and what is charged, is 01's cost, of every call on any tables.
   pub price-is-cost : (tables : Tables) (call : Call) → price tables call ≡ cost call

@@ -1,5 +1,5 @@
 -- What 01, "Effects", says of each call that is done, as statements: what is sent to whom, and what stands in the tables afterwards, byte by
--- byte. 01's numbers stand here as numbers.
+-- byte. 01's numbers stand here as numbers, but for the sizes of records and the number of rows.
 use Prim.Native.Nat.{ℕ, _+_, _*_, _%_, _≤_, _<_}
 use mathlib.Core.Path.{_≡_}
 use mathlib.Core.Logic.{_≢_, _⊎_}
@@ -11,7 +11,7 @@ use Rattle.octets.specs.Octets.{if_then_else_, byteAt, part, numberAt, put}
 use Rattle.svsc.specs.Messages.{Established, EstablishNotification, encode}
 use Rattle.rules.specs.Sizes.{rowCount, connectionBytes, leaseBytes}
 use Rattle.rules.specs.Searches.{endRow}
-use Rattle.rules.specs.Tables.{Tables, partnerOf, ownerOf, connectionAt, holderAt, inSession, hasSession, holderCounts, sessionIdOf, peerIdOf, peerKeyOf, live, expiry, idOf, holder, cookieOf}
+use Rattle.rules.specs.Tables.{Tables, partnerOf, ownerOf, connectionAt, inSession, hasSession, holderCounts, sessionIdOf, peerIdOf, peerKeyOf, live, expiry, idOf, holder, cookieOf}
 use Rattle.rules.specs.Leases.{LeaseDecision, holdsLease, noSpareRow, cookieInUse, noFreeId, granted}
 use Rattle.rules.specs.Sessions.{EstablishDecision, refusedWith, establishedWith}
 use Rattle.rules.specs.Calls.{Call, replyBuffer, relayBuffer, Outcome}
@@ -124,7 +124,7 @@ pub record Closed (tables : Tables) (c : ℕ) (o : Outcome) : Type 0 where
   pub own : FreshBut 0 (o .tables .connections) c
   pub given-back : (r : ℕ) → ownerOf r ≡ partnerOf c → holder (tables .leases) r ≡ c → holder (o .tables .leases) r ≡ 255
   pub other-rows : ChangedOnly
-      (λ i. (r : ℕ) × (ownerOf r ≡ partnerOf c) × (holder (tables .leases) r ≡ c) × (i ≡ holderAt r))
+      (λ i. (r : ℕ) × (ownerOf r ≡ partnerOf c) × (holder (tables .leases) r ≡ c) × (i ≡ 40 * r + 12))
       (tables .leases)
       (o .tables .leases)
 

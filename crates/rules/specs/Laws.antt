@@ -3,12 +3,15 @@ use Prim.Native.Nat.{ℕ, _%_, _≤_, _<_}
 use mathlib.Core.Path.{_≡_}
 use mathlib.Core.Logic.{_≢_}
 use mathlib.Core.Bool.{true, false}
+use mathlib.Core.Option.{some}
 use mathlib.Core.List.{List}
 use Rattle.octets.specs.Octets.{byteAt}
-use Rattle.rules.specs.Sizes.{rowCount, connectionBytes, leaseBytes, nobody}
-use Rattle.rules.specs.Tables.{Tables, partnerOf, ownerOf, live, idOf}
-use Rattle.rules.specs.Calls.{Call, replyBuffer, relayBuffer, Outcome}
+use Rattle.svsc.specs.Messages.{VersionAnswer, decode}
+use Rattle.rules.specs.Sizes.{partners, rowCount, connectionBytes, leaseBytes, nobody}
+use Rattle.rules.specs.Tables.{Tables, partnerOf, ownerOf, state, peer, live, idOf}
+use Rattle.rules.specs.Calls.{Call, opening, message, closing, replyBuffer, relayBuffer, Outcome}
 use Rattle.rules.specs.Step.{step}
+use Rattle.rules.specs.Bytes.{InField}
 use Rattle.rules.specs.Reading.{connectionRecord, leaseRecord}
 
 -- "A call is accepted exactly if its answer is 0."
@@ -28,6 +31,28 @@ pub record WithinPartner (p : ℕ) (tables : Tables) (cs ls : List ℕ) (d : ℕ
   pub connections : (c : ℕ) → partnerOf c ≢ p → connectionRecord cs c ≡ connectionRecord (tables .connections) c
   pub leases : (r : ℕ) → ownerOf r ≢ p → leaseRecord ls r ≡ leaseRecord (tables .leases) r
   pub destination : d ≢ nobody → partnerOf d ≡ p
+
+-- "Two connections are in session exactly if they differ, both are open, are of one partner, and each names the other."
+pub record InSession (cs : List ℕ) (c d : ℕ) : Type 0 where
+  pub differ : c ≢ d
+  pub first-open : state cs c ≡ 2
+  pub second-open : state cs d ≡ 2
+  pub of-one : partnerOf c ≡ partnerOf d
+  pub names-second : peer cs c ≡ d
+  pub names-first : peer cs d ≡ c
+
+-- the places of the allowance record of partner p, and of the clock
+abbrev pub InAllowance : ℕ → ℕ → Type 0
+InAllowance p i = InField 16 p 0 16 i
+
+abbrev pub InClock : ℕ → Type 0
+InClock i = InField 16 partners 8 8 i
+
+-- "only type 1 with ok 0 hangs up"
+abbrev pub RefusesVersion : Call → Type 0
+RefusesVersion (opening now c reply) = ⊥
+RefusesVersion (message now c m random reply relay) = decode m ≡ some (VersionAnswer 0)
+RefusesVersion (closing now c relay) = ⊥
 
 -- Any two live rows have different ids.
 abbrev pub DistinctIds : List ℕ → ℕ → Type 0
