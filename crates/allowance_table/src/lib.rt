@@ -1,5 +1,6 @@
-// The allowance table: each partner's level and when it was stored, and the clock, in the last record. A table of the right size and a partner
-// in range are required: the relay's checks 1 and 3 come before anything here is called, and no answer would serve where they fail.
+// The allowance table: each partner's level and when it was stored, and the clock, in the last record. A table of the right size and a
+// partner in range are required: the relay's checks 1 and 3 come before anything here is called, and no answer would serve where they
+// fail.
 ghost use mathlib.Core.Path.{_≡_};
 ghost use Prim.Native.Nat.{_+_, _<_};
 ghost use lib.ListN.{length};

@@ -1,5 +1,5 @@
-// Single checks, of which a call has some: what each looks at. They only read. The numbers that refuse a call are those of crates `refusals`
-// and `message_refusal`.
+// Single checks, of which a call has some: what each looks at. They only read. The numbers that refuse a call are those of crates
+// `refusals` and `message_refusal`.
 ghost use mathlib.Core.Path.{_≡_};
 ghost use mathlib.Core.Bool.{not, _&&_, _||_};
 ghost use mathlib.Core.List.{List};
@@ -82,7 +82,8 @@ pub fn has_no_session(connections: &[u8], c: u8, kind: u8) -> bool
     false
 }
 
-// For 9: what a message costs: nothing, if it ends a session. Of a message that passed check 6, whose length is bounded, so that the sum is too.
+// For 9: what a message costs: nothing, if it ends a session. Of a message that passed check 6, whose length is bounded, so that the sum
+// is too.
 pub fn cost(m: &[u8]) -> u64
     requires { ⌜ length (now m) ≤ longestMessage ⌝ }
     ensures { λ r. ⌜ ((time c : ℕ) (random reply relay : List ℕ) → r ≡ cost (message time c (now (m .entry)) random reply relay)) ⌝ }

@@ -1,5 +1,5 @@
-// What is written to the rows of leases: by a grant, an extension and a close. Numbers in range are required: the relay's checks come before
-// anything here is called, and no answer would serve where they fail.
+// What is written to the rows of leases: by a grant, an extension and a close. Numbers in range are required: the relay's checks come
+// before anything here is called, and no answer would serve where they fail.
 ghost use mathlib.Core.Path.{_≡_};
 ghost use Prim.Native.Nat.{_<_};
 ghost use Rattle.rules.specs.Sizes.{connectionCount, rowCount};
