@@ -33,12 +33,12 @@ pub fn store(allowances: &mut [u8], partner: usize, level: u64, time: u64)
     ensures { λ _. ⌜ now (allowances .exit) ≡ setBucket (now (allowances .entry)) partner (record { level = level; updated = time }) ⌝ }
 {
     let at = rules::ALLOWANCE_BYTES * partner;
-    octets::write64(allowances, at, level);
-    octets::write64(allowances, at + rules::UPDATED_AT, time);
+    octet_stores::write64(allowances, at, level);
+    octet_stores::write64(allowances, at + rules::UPDATED_AT, time);
 }
 
 pub fn set_clock(allowances: &mut [u8], time: u64)
     ensures { λ _. ⌜ now (allowances .exit) ≡ setClock (now (allowances .entry)) time ⌝ }
 {
-    octets::write64(allowances, rules::CLOCK_AT, time);
+    octet_stores::write64(allowances, rules::CLOCK_AT, time);
 }

@@ -27,13 +27,13 @@ pub fn clear(connections: &mut [u8], c: u8)
 {
     let mut record = [0u8; rules::CONNECTION_BYTES];
     record[rules::PEER_AT] = rules::NOBODY;
-    octets::copy(connections, rules::CONNECTION_BYTES * c as usize, &record);
+    octet_stores::copy(connections, rules::CONNECTION_BYTES * c as usize, &record);
 }
 
 fn set_state(connections: &mut [u8], c: u8, s: u8)
     ensures { λ _. ⌜ now (connections .exit) ≡ setState (now (connections .entry)) c s ⌝ }
 {
-    octets::write8(connections, rules::CONNECTION_BYTES * c as usize, s);
+    octet_stores::write8(connections, rules::CONNECTION_BYTES * c as usize, s);
 }
 
 // The record of a connection that has been opened and awaits the version answer.

@@ -14,7 +14,7 @@ fn fill_records(table: &mut [u8], row: &[u8], count: usize)
     let mut i = 0;
     let mut at = 0;
     while i < count {
-        octets::copy(table, at, row);
+        octet_stores::copy(table, at, row);
         at += row.len();
         i += 1;
     }
@@ -43,9 +43,9 @@ pub fn fresh_allowances(allowances: &mut [u8], time: u64)
     ensures { λ _. ⌜ now (allowances .exit) ≡ fresh time .allowances ⌝ }
 {
     let mut row = [0u8; rules::ALLOWANCE_BYTES];
-    octets::write64(&mut row, 0, allowance::CAPACITY);
-    octets::write64(&mut row, rules::UPDATED_AT, time);
+    octet_stores::write64(&mut row, 0, allowance::CAPACITY);
+    octet_stores::write64(&mut row, rules::UPDATED_AT, time);
     fill_records(allowances, &row, rules::PARTNERS);
-    octets::write64(allowances, rules::CLOCK_AT - rules::UPDATED_AT, 0);
-    octets::write64(allowances, rules::CLOCK_AT, time);
+    octet_stores::write64(allowances, rules::CLOCK_AT - rules::UPDATED_AT, 0);
+    octet_stores::write64(allowances, rules::CLOCK_AT, time);
 }

@@ -13,10 +13,10 @@ pub fn grant(leases: &mut [u8], row: usize, until: u64, id: u32, cookie: &[u8], 
     ensures { λ _. ⌜ now (leases .exit) ≡ grant (now (leases .entry)) row until id (now (cookie .entry)) c ⌝ }
 {
     let at = rules::LEASE_BYTES * row;
-    octets::write64(leases, at, until);
-    octets::write32(leases, at + rules::ID_AT, id);
-    octets::write8(leases, at + rules::HOLDER_AT, c);
-    octets::copy(leases, at + rules::COOKIE_AT, cookie);
+    octet_stores::write64(leases, at, until);
+    octet_stores::write32(leases, at + rules::ID_AT, id);
+    octet_stores::write8(leases, at + rules::HOLDER_AT, c);
+    octet_stores::copy(leases, at + rules::COOKIE_AT, cookie);
 }
 
 // Writes when a lease ends.
@@ -24,7 +24,7 @@ pub fn extend(leases: &mut [u8], row: usize, until: u64)
     requires { ⌜ row < rowCount ⌝ }
     ensures { λ _. ⌜ now (leases .exit) ≡ setExpiry (now (leases .entry)) row until ⌝ }
 {
-    octets::write64(leases, rules::LEASE_BYTES * row, until);
+    octet_stores::write64(leases, rules::LEASE_BYTES * row, until);
 }
 
 // Takes a connection off a row, if it is the holder.
@@ -33,7 +33,7 @@ fn release_row(leases: &mut [u8], row: usize, c: u8)
     ensures { λ _. ⌜ now (leases .exit) ≡ releaseRow (now (leases .entry)) row c ⌝ }
 {
     if lease_table::holder(leases, row) == c {
-        octets::write8(
+        octet_stores::write8(
             leases,
             rules::LEASE_BYTES * row + rules::HOLDER_AT,
             rules::NOBODY,

@@ -1,9 +1,8 @@
-// Bytes in lent slices: numbers, parts and stores.
+// Bytes in lent slices, read: numbers and parts. What stores leave is defined here too; crate octet_stores has the code.
 ghost use mathlib.Core.Path.{_≡_};
-ghost use mathlib.Core.List.{[], _∷_};
-ghost use Prim.Native.Nat.{_+_, _-_, _*_, _≤_, min};
-ghost use lib.ListN.{length, drop, replicate};
-ghost use Rattle.octets.specs.Octets.{byteAt, part, put, bigEndian, numberAt};
+ghost use Prim.Native.Nat.{_+_, _*_, _≤_};
+ghost use lib.ListN.{length, drop};
+ghost use Rattle.octets.specs.Octets.{byteAt, part, bigEndian, numberAt};
 
 // ---- reading
 
@@ -92,66 +91,4 @@ pub fn bytes64(v: u64) -> [u8; 8]
         (v / 256 % 256) as u8,
         (v % 256) as u8,
     ]
-}
-
-// How many of n bytes fit from a place on.
-fn fitting(length: usize, at: usize, n: usize) -> usize
-    ensures { λ r. ⌜ r ≡ min (length - at) n ⌝ }
-{
-    if length <= at {
-        return 0;
-    }
-    if length - at < n {
-        return length - at;
-    }
-    n
-}
-
-// Copies s to the bytes from a place on; what would fall past the end is dropped.
-pub fn copy(t: &mut [u8], at: usize, s: &[u8])
-    ensures { λ _. ⌜ now (t .exit) ≡ put (now (t .entry)) at (now (s .entry)) ⌝ }
-{
-    let n = fitting(t.len(), at, s.len());
-    let mut i = 0;
-    while i < n {
-        t[at + i] = s[i];
-        i += 1;
-    }
-}
-
-// Stores v in the n bytes from a place on; what would fall past the end is dropped.
-pub fn fill(t: &mut [u8], at: usize, n: usize, v: u8)
-    ensures { λ _. ⌜ now (t .exit) ≡ put (now (t .entry)) at (replicate n v) ⌝ }
-{
-    let m = fitting(t.len(), at, n);
-    let mut i = 0;
-    while i < m {
-        t[at + i] = v;
-        i += 1;
-    }
-}
-
-// Stores one byte.
-pub fn write8(t: &mut [u8], at: usize, v: u8)
-    ensures { λ _. ⌜ now (t .exit) ≡ put (now (t .entry)) at (v ∷ []) ⌝ }
-{
-    if at < t.len() {
-        t[at] = v;
-    }
-}
-
-// Stores the four bytes of a number.
-pub fn write32(t: &mut [u8], at: usize, v: u32)
-    ensures { λ _. ⌜ now (t .exit) ≡ put (now (t .entry)) at (bigEndian 4 v) ⌝ }
-{
-    let bytes = bytes32(v);
-    copy(t, at, &bytes);
-}
-
-// Stores the eight bytes of a number.
-pub fn write64(t: &mut [u8], at: usize, v: u64)
-    ensures { λ _. ⌜ now (t .exit) ≡ put (now (t .entry)) at (bigEndian 8 v) ⌝ }
-{
-    let bytes = bytes64(v);
-    copy(t, at, &bytes);
 }

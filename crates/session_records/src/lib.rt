@@ -44,9 +44,9 @@ fn join(connections: &mut [u8], c: u8, other: u8, session: &[u8], pair: &[u8])
         ≡ join (now (connections .entry)) c other (now (session .entry) ++ now (pair .entry)) ⌝ }
 {
     let at = rules::CONNECTION_BYTES * c as usize;
-    octets::write8(connections, at + rules::PEER_AT, other);
-    octets::copy(connections, at + rules::KEYS_AT, session);
-    octets::copy(connections, at + rules::KEYS_AT + svsc::KEY, pair);
+    octet_stores::write8(connections, at + rules::PEER_AT, other);
+    octet_stores::copy(connections, at + rules::KEYS_AT, session);
+    octet_stores::copy(connections, at + rules::KEYS_AT + svsc::KEY, pair);
 }
 
 // Joins the caller and the holder: one session id, and to each its own pair.
@@ -63,8 +63,8 @@ fn leave(connections: &mut [u8], c: u8)
     ensures { λ _. ⌜ now (connections .exit) ≡ leave (now (connections .entry)) c ⌝ }
 {
     let at = rules::CONNECTION_BYTES * c as usize;
-    octets::write8(connections, at + rules::PEER_AT, rules::NOBODY);
-    octets::fill(connections, at + rules::KEYS_AT, rules::KEYS_BYTES, 0);
+    octet_stores::write8(connections, at + rules::PEER_AT, rules::NOBODY);
+    octet_stores::fill(connections, at + rules::KEYS_AT, rules::KEYS_BYTES, 0);
 }
 
 // Takes the session out of both records.

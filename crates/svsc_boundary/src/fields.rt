@@ -88,7 +88,7 @@ fn store(buffer: &mut [u8], bytes: &[u8]) -> Written
             length: 0,
         };
     }
-    octets::copy(buffer, 0, bytes);
+    octet_stores::copy(buffer, 0, bytes);
     Written {
         number: 0,
         length: bytes.len(),

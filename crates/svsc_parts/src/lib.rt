@@ -41,11 +41,11 @@ fn place(buffer: &mut [u8], kind: u8, a: &[u8], b: &[u8], c: &[u8], d: &[u8]) ->
     let at_c = at_b + b.len();
     let at_d = at_c + c.len();
     let end = at_d + d.len();
-    octets::write8(buffer, 0, kind);
-    octets::copy(buffer, 1, a);
-    octets::copy(buffer, at_b, b);
-    octets::copy(buffer, at_c, c);
-    octets::copy(buffer, at_d, d);
+    octet_stores::write8(buffer, 0, kind);
+    octet_stores::copy(buffer, 1, a);
+    octet_stores::copy(buffer, at_b, b);
+    octet_stores::copy(buffer, at_c, c);
+    octet_stores::copy(buffer, at_d, d);
     end
 }
 

@@ -4,10 +4,10 @@ use Prim.Native.Nat.{_≤_, _<_, _-_}
 use mathlib.Core.Path.{_≡_, refl, sym, _∙_}
 use borrow.Author.Needs.{needs}
 use lib.ListN.{length, take, length-set}
 use Rattle.octets.specs.Octets.{put}
 use Rattle.octets.proofs.Stores.{put-none, put-take-more, put-cut}
-use Rattle.octets.proofs.copy.Statement.{statement}
-use Rattle.octets.proofs.copy.Tie as tie
+use Rattle.octet_stores.proofs.copy.Statement.{statement}
+use Rattle.octet_stores.proofs.copy.Tie as tie
 
 abbrev Inv-loop : tie.InvT-loop
 Inv-loop t₀ at s n i₀ t i = (i ≤ n) × (t ≡ put t₀ at (take i s)) × (length t ≡ length t₀)

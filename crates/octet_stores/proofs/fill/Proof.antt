@@ -4,10 +4,10 @@ use Prim.Native.Nat.{_≤_, _-_}
 use mathlib.Core.Path.{_≡_, refl, sym, _∙_}
 use borrow.Author.Needs.{needs}
 use lib.ListN.{length, replicate, length-set}
 use Rattle.octets.specs.Octets.{put}
 use Rattle.octets.proofs.Stores.{put-none, put-replicate-more, put-replicate-cut}
-use Rattle.octets.proofs.fill.Statement.{statement}
-use Rattle.octets.proofs.fill.Tie as tie
+use Rattle.octet_stores.proofs.fill.Statement.{statement}
+use Rattle.octet_stores.proofs.fill.Tie as tie
 
 abbrev Inv-loop : tie.InvT-loop
 Inv-loop t₀ at n v m i₀ t i = (i ≤ m) × (t ≡ put t₀ at (replicate i v)) × (length t ≡ length t₀)

@@ -1,9 +1,9 @@
 -- `write32`: the bytes of the number, copied.
 use mathlib.Core.Path.{ap, _∙_}
 use Rattle.octets.specs.Octets.{put}
 use borrow.Author.Needs.{needs}
-use Rattle.octets.proofs.write32.Statement.{statement}
-use Rattle.octets.proofs.write32.Tie as tie
+use Rattle.octet_stores.proofs.write32.Statement.{statement}
+use Rattle.octet_stores.proofs.write32.Tie as tie
 
 bytes32-requires : tie.Need-bytes32-requires
 bytes32-requires c κs = search needs

@@ -2,9 +2,9 @@
 use mathlib.Core.Path.{sym, _∙_}
 use borrow.Author.Needs.{needs}
 use lib.Seq.{set-out}
 use Rattle.octets.proofs.Stores.{put-one}
-use Rattle.octets.proofs.write8.Statement.{statement}
-use Rattle.octets.proofs.write8.Tie as tie
+use Rattle.octet_stores.proofs.write8.Statement.{statement}
+use Rattle.octet_stores.proofs.write8.Tie as tie
 
 slice-write-t : tie.Need-slice-write-t
 slice-write-t c = search needs

@@ -1,9 +1,9 @@
 -- `write64`: the bytes of the number, copied.
 use mathlib.Core.Path.{ap, _∙_}
 use Rattle.octets.specs.Octets.{put}
 use borrow.Author.Needs.{needs}
-use Rattle.octets.proofs.write64.Statement.{statement}
-use Rattle.octets.proofs.write64.Tie as tie
+use Rattle.octet_stores.proofs.write64.Statement.{statement}
+use Rattle.octet_stores.proofs.write64.Tie as tie
 
 bytes64-requires : tie.Need-bytes64-requires
 bytes64-requires c κs = search needs
