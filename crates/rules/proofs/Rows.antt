@@ -14,7 +14,7 @@ use Rattle.octets.specs.Octets.{if_then_else_, bigEndian, numberFrom, number, p
 use Rattle.octets.proofs.Numbers.{length-bigEndian}
 use Rattle.octets.proofs.Stores.{length-put, part-put, numberAt-put, numberAt-before}
 use Rattle.svsc.specs.Messages.{cookieBytes}
-use Rattle.rules.specs.Sizes.{rowCount, rowsPerPartner, leaseBytes, leasesSize, idLimit, nobody}
+use Rattle.rules.specs.Sizes.{rowCount, rowsPerPartner, leaseBytes, leasesSize, idLimit}
 use Rattle.rules.specs.Searches.{firstRow}
 use Rattle.rules.specs.Tables.{partnerOf, leaseAt, idAt, holderAt, cookieAt, expiry, idOf, holder, cookieOf, live, liveWithId, setExpiry, setId, setHolder, setCookie, records, freshLease, fresh}
 use Rattle.rules.specs.Leases.{idTaken, grant, releaseFrom, release}
@@ -212,7 +212,7 @@ module _ (k : ℕ) where
   release-keeps zero ls c r = (refl, refl)
   release-keeps (suc n) ls c r =
       let a = by-holder (λ l. Keeps ls l) ls c r _ (holder-beside ls r _) (refl, refl) in
-      let b = release-keeps n (if eqb (holder ls r) c then setHolder ls r nobody else ls) c (suc r) in
+      let b = release-keeps n _ c (suc r) in
       (b .0 ∙ a .0, b .1 ∙ a .1)
 
 pub distinct-release : (ls : List ℕ) (now c : ℕ) → DistinctIds ls now → DistinctIds (release ls c) now
