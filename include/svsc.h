@@ -57,7 +57,7 @@ typedef struct {
 
 /* Fields of bytes. */
 #define SVSC_COOKIE 0u  /* types 2 and 3 in their long form, 4: 24 bytes */
-#define SVSC_SESSION 1u /* types 7 in its long form, 8: 16 bytes */
+#define SVSC_SESSION 1u /* type 7 in its long form, and 8: 16 bytes */
 #define SVSC_PEER 2u    /* the same */
 #define SVSC_KEY 3u     /* the same */
 #define SVSC_DATA 4u    /* types 11 and 12: 0 to 65,533 bytes */

@@ -7,7 +7,7 @@ use mathlib.Core.List.{List, [], _∷_, _++_, append-assoc}
 use Rattle.allowance.specs.Bucket.{capacity, refillRate, Bucket, levelNow}
 use Rattle.allowance.specs.History.{Entry, paid, charges, levelFromHistory, latest, Bounded}
 use Rattle.allowance.specs.Lawful.{Left, Admissible, Lawful, bucketAfter, levelFrom}
-use Rattle.allowance.proofs.Numbers.{level≤capacity, level-plain, charge-monotone, charge-figure}
+use Rattle.allowance.proofs.Numbers.{level≤capacity, level-plain, charge-monotone, charge-level}
 use Rattle.allowance.proofs.Entries.{
   forward,
   paid-parts,
@@ -73,7 +73,7 @@ module _ (p t : ℕ) (e : Entry) (q : paid p e ≡ true) (l : e .time ≤ t) whe
             level =
                 rw
                 (level-paid p t x (h ++ (e ∷ [])) y, charges-last-paid p (x ∷ h) e q, level-paid p (e .time) x h y, k .level)
-                (charge-figure (charges p (x ∷ h)) (levelFromHistory p (e .time) h) (e .cost) (e .time) (x .time) t (v .0) l within);
+                (charge-level (charges p (x ∷ h)) (levelFromHistory p (e .time) h) (e .cost) (e .time) (x .time) t (v .0) l within);
           }
       go false y ih =
           let k = ih (rw (level-not p (e .time) x h y) at c) in

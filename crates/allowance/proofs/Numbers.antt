@@ -33,10 +33,10 @@ min-plus : (a b y : ℕ) → min (a + y) (min capacity (b + y)) ≡ min capacity
 min-plus a b y = omega arith
 
 -- A charge c at time r, on the smaller of f and the figure of an earlier call at r₁, refilled up to t.
-pub charge-figure : (spent f c r r₁ t : ℕ) → r₁ ≤ r → r ≤ t → spent + c ≤ capacity + refillRate * (r - r₁)
+pub charge-level : (spent f c r r₁ t : ℕ) → r₁ ≤ r → r ≤ t → spent + c ≤ capacity + refillRate * (r - r₁)
     → min (capacity + refillRate * (t - r₁) - (spent + c)) (min capacity (f - c + refillRate * (t - r)))
     ≡ min capacity (min (capacity + refillRate * (r - r₁) - spent) f - c + refillRate * (t - r))
-charge-figure spent f c r r₁ t h h′ k =
+charge-level spent f c r r₁ t h h′ k =
     rw (whole, min-minus (capacity + refillRate * (r - r₁) - spent) f c) (min-plus _ (f - c) (refillRate * (t - r)))
   where
     whole : capacity + refillRate * (t - r₁) - (spent + c) ≡ capacity + refillRate * (r - r₁) - spent - c + refillRate * (t - r)

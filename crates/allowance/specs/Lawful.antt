@@ -19,7 +19,7 @@ pub record Admissible (left : Left) (t₀ : ℕ) (before : List Entry) (e : Entr
 
 -- A lawful history: each entry may follow those before it. After a fresh start at t₀ that is `Lawful levelFromHistory t₀ h`.
 --
--- `left` is a parameter, so that this serves a start from other allowances too (a journal's, 02, items 8 and 12): with
+-- `left` is a parameter, so that this serves a start from other allowances too: with
 -- `levelFrom start` it asks that each charge is within what `start` gives. Such a history is also lawful as after a fresh
 -- start (law `lawful-full`): no allowances give more than full ones. So whatever is shown of `Lawful levelFromHistory` holds of both.
 unfoldable pub Lawful : Left → ℕ → List Entry → Type 0

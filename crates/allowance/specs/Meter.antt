@@ -31,7 +31,7 @@ pub record Meter (State Call Answer : Type 0) : Type 0 where
   pub number : Answer → ℕ
   pub cost : Call → Answer → ℕ
 
--- "Checks run in this order; the first that applies decides": one of 1 to 8, else "9: the charge exceeds the partner's level", else 0.
+-- "Checks run in this order; the first that applies decides": one of 1 to 8, else 9, "the charge exceeds the partner's level", else 0.
 unfoldable pub verdict : ℕ → Bool → ℕ → ℕ → ℕ
 verdict zero charged level price = cond (charged && ltb level price) 9 0
 verdict (suc n) charged level price = suc n

@@ -1,4 +1,4 @@
-// Paying for a call. That its partner has as much is what check 9 has shown, and no answer would serve where they fail.
+// Paying for a call. Check 9 has shown that its partner has as much; no answer would serve where it hasn't.
 ghost use mathlib.Core.Path.{_≡_};
 ghost use mathlib.Core.List.{List};
 ghost use Prim.Native.Nat.{ℕ, _≤_};

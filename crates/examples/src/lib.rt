@@ -1,1 +1,1 @@
-// The worked examples of document 01. They are definitions and one law; there is no code.
+// The worked examples of document 01, and the order of its checks: definitions and the laws of their two tables. There is no code.

@@ -71,7 +71,7 @@ pub fn decide_lease(leases: &[u8], time: u64, c: u8, random: &[u8]) -> LeaseDeci
     }
 }
 
-// When a lease that is given or extended at a time ends. The allowance table may keep a term in its last record; here it doesn't.
+// When a lease that is given or extended at a time ends. The allowance table is not read.
 pub fn lease_end(allowances: &[u8], time: u64) -> u64
     requires { ⌜ time < timeLimit ⌝ }
     ensures { λ r. ⌜ r ≡ leaseEnd (now (allowances .entry)) time ⌝ }

@@ -9,8 +9,7 @@ use Rattle.rules.specs.Sizes.{rowsPerPartner, rowCount, nobody, leaseTer
 use Rattle.rules.specs.Searches.{firstFrom, anyFrom, firstRow, endRow, firstOwn, anyOwn}
 use Rattle.rules.specs.Tables.{partnerOf, holder, cookieOf, live, liveWithId, setExpiry, setId, setHolder, setCookie}
 
--- "expiry reading + 3,600": when a lease that is given or extended now ends. The first argument, the allowance table, is not read: the
--- rules that give leases hand it on, so that a term kept there would change this line alone.
+-- "expiry reading + 3,600": when a lease that is given or extended now ends. The first argument, the allowance table, is not read.
 unfoldable pub leaseEnd : List ℕ → ℕ → ℕ
 leaseEnd al now = now + leaseTerm
 
