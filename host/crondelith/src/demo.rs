@@ -7,7 +7,7 @@ use std::time::{Duration, Instant};
 
 use codec::Message;
 use peer::{grouped, receive_file, send_file, Peer};
-use server::{bind, Clock, Log, Server, Settings, Statistics, SystemClock, CONNECTIONS_EACH};
+use server::{bind_free, Clock, Log, LogFormat, Server, Settings, Statistics, SystemClock, CONNECTIONS_EACH};
 
 use crate::arguments::Arguments;
 use crate::{say, Failure, Outcome};
@@ -65,14 +65,15 @@ struct Scene {
 
 /// Sends the file through a relay of its own, so that each time starts with full allowances.
 fn scene(file: &[u8], with_flood: bool) -> Result<Scene, String> {
-    let server =
-        bind(None).and_then(|listeners| Server::start(listeners, Settings::new(SystemClock, Log::new(|_| ()))));
+    let server = bind_free().and_then(|listeners| {
+        Server::start(listeners, Settings::new(SystemClock::new(), Log::new(LogFormat::Text, |_| ())))
+    });
     let server = server.map_err(|error| format!("no relay: {error}"))?;
     let addresses = server.addresses();
     let flood = if with_flood { start_flood(addresses[FLOOD]) } else { Ok(Vec::new()) };
     let flood = flood.map_err(|error| error.to_string())?;
     // Allowances refill by whole seconds, so both times start with one.
-    thread::sleep(SystemClock.until_next());
+    thread::sleep(SystemClock::new().until_next());
     let transferred = transfer(addresses[FILE], file);
     let got = server.stop();
     for connection in flood {

@@ -1,8 +1,8 @@
 //! `crondelith serve`: the relay, until it is interrupted.
 
-use std::net::TcpListener;
+use std::net::Ipv4Addr;
 
-use server::{bind, Log, Server, Settings, SystemClock, PARTNERS};
+use server::{bind, Listeners, Log, LogFormat, Server, Settings, SystemClock, PARTNERS};
 
 use crate::arguments::{Arguments, Known};
 use crate::{note, Failure, Outcome};
@@ -38,7 +38,9 @@ pub fn run(arguments: Arguments) -> Outcome {
     arguments.others([])?;
     let base_port = arguments.number("--base-port", 1..=HIGHEST_BASE_PORT, DEFAULT_BASE_PORT)?;
     interrupt::watch();
-    let server = bind(Some(base_port)).and_then(start).map_err(|error| Failure::Failed(error.to_string()))?;
+    let server = bind(&[Ipv4Addr::LOCALHOST.into()], base_port)
+        .and_then(start)
+        .map_err(|error| Failure::Failed(error.to_string()))?;
     for (partner, address) in server.addresses().iter().enumerate() {
         note(&format!("partner {partner} at {address}"));
     }
@@ -48,6 +50,6 @@ pub fn run(arguments: Arguments) -> Outcome {
     Ok(())
 }
 
-fn start(listeners: Vec<TcpListener>) -> std::io::Result<Server> {
-    Server::start(listeners, Settings::new(SystemClock, Log::new(note)))
+fn start(listeners: Listeners) -> std::io::Result<Server> {
+    Server::start(listeners, Settings::new(SystemClock::new(), Log::new(LogFormat::Text, note)))
 }

@@ -11,9 +11,14 @@ pub trait Clock: Send + Sync {
 }
 
 /// The system's clock: seconds since 1970, as the paper's expirations are.
+#[derive(Default)]
 pub struct SystemClock;
 
 impl SystemClock {
+    pub fn new() -> Self {
+        Self
+    }
+
     fn since_1970(&self) -> Duration {
         SystemTime::now().duration_since(UNIX_EPOCH).unwrap_or_default()
     }

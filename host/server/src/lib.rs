@@ -19,8 +19,8 @@ mod stop;
 mod turns;
 
 pub use clock::{Clock, JumpingClock, SystemClock};
-pub use log::Log;
-pub use port::bind;
+pub use log::{Log, LogFormat};
+pub use port::{bind, bind_free, Listeners};
 pub use server::{Server, Settings};
 pub use statistics::Statistics;
 

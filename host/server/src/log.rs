@@ -14,6 +14,14 @@ const PERIOD: Duration = Duration::from_secs(5);
 /// Lines that may wait to be written. Further ones are lost, and counted.
 const BOUND: usize = 1_000;
 
+/// How a line looks.
+#[derive(Clone, Copy, Debug, Default, PartialEq, Eq)]
+pub enum LogFormat {
+    #[default]
+    Text,
+    Json,
+}
+
 /// A line is written at its first time, and from then on how often it came again in each [`PERIOD`].
 pub struct Log {
     write: Box<dyn Fn(&str) + Send + Sync>,
@@ -31,7 +39,7 @@ struct State {
 }
 
 impl Log {
-    pub fn new(write: impl Fn(&str) + Send + Sync + 'static) -> Self {
+    pub fn new(_format: LogFormat, write: impl Fn(&str) + Send + Sync + 'static) -> Self {
         Self { write: Box::new(write), state: Mutex::default(), changed: Condvar::new() }
     }
 

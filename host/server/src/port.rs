@@ -1,7 +1,7 @@
 //! A partner's port: it takes at most eight connections at a time, each on a thread of its own.
 
 use std::io;
-use std::net::{Ipv4Addr, Shutdown, SocketAddr, TcpListener, TcpStream};
+use std::net::{IpAddr, Ipv4Addr, Shutdown, SocketAddr, TcpListener, TcpStream};
 use std::sync::{Arc, Mutex};
 use std::thread::{self, JoinHandle};
 use std::time::Duration;
@@ -15,14 +15,30 @@ use crate::{CONNECTIONS_EACH, PARTNERS};
 /// A pause after a connection that isn't taken, so that a flood of them leaves the machine to others.
 const PAUSE: Duration = Duration::from_millis(10);
 
-/// A listener for each partner on this machine, from the base port on; without one, on ports that are free.
-pub fn bind(base_port: Option<u16>) -> io::Result<Vec<TcpListener>> {
-    let listener = |partner| {
-        let port = base_port.map_or(0, |base| base.saturating_add(partner));
-        TcpListener::bind((Ipv4Addr::LOCALHOST, port))
-            .map_err(|error| io::Error::new(error.kind(), format!("port {port} of partner {partner}: {error}")))
+/// The sockets that listen for each partner: one or more.
+pub struct Listeners(Vec<Vec<TcpListener>>);
+
+/// Listens on each of the addresses, for partner p on port `base_port + p`.
+pub fn bind(addresses: &[IpAddr], base_port: u16) -> io::Result<Listeners> {
+    let listener = |partner, address| {
+        let place = SocketAddr::new(address, base_port.saturating_add(partner));
+        TcpListener::bind(place)
+            .map_err(|error| io::Error::new(error.kind(), format!("{place} of partner {partner}: {error}")))
     };
-    (0..PARTNERS as u16).map(listener).collect()
+    let of_partner = |partner| addresses.iter().map(|address| listener(partner, *address)).collect();
+    (0..PARTNERS as u16).map(of_partner).collect::<io::Result<_>>().map(Listeners)
+}
+
+/// Listens on this machine's loopback address, on ports that are free.
+pub fn bind_free() -> io::Result<Listeners> {
+    let listener = || Ok(vec![TcpListener::bind((Ipv4Addr::LOCALHOST, 0))?]);
+    (0..PARTNERS).map(|_| listener()).collect::<io::Result<_>>().map(Listeners)
+}
+
+impl Listeners {
+    pub fn first_of_each(self) -> impl Iterator<Item = TcpListener> {
+        self.0.into_iter().flat_map(|mut listeners| listeners.pop())
+    }
 }
 
 pub struct Port {

@@ -2,7 +2,8 @@
 
 use std::fs::File;
 use std::io;
-use std::net::{Shutdown, SocketAddr, TcpListener};
+use std::net::{Shutdown, SocketAddr};
+use std::path::PathBuf;
 use std::sync::Arc;
 use std::thread::{self, JoinHandle};
 use std::time::{Duration, Instant};
@@ -10,7 +11,7 @@ use std::time::{Duration, Instant};
 use crate::clock::Clock;
 use crate::connection::Shared;
 use crate::log::Log;
-use crate::port::Port;
+use crate::port::{Listeners, Port};
 use crate::relay::Relay;
 use crate::statistics::Statistics;
 use crate::stop::Stop;
@@ -26,11 +27,13 @@ pub struct Settings {
     pub log: Log,
     /// How long a peer may leave next to everything unread that is sent to it before it is given up.
     pub patience: Duration,
+    /// Where the tables are kept from one run to the next.
+    pub state: Option<PathBuf>,
 }
 
 impl Settings {
     pub fn new(clock: impl Clock + 'static, log: Log) -> Self {
-        Self { clock: Box::new(clock), log, patience: Duration::from_secs(30) }
+        Self { clock: Box::new(clock), log, patience: Duration::from_secs(30), state: None }
     }
 }
 
@@ -44,13 +47,12 @@ pub struct Server {
 
 impl Server {
     /// Starts a fresh relay on the listeners, one for each partner.
-    pub fn start(listeners: Vec<TcpListener>, settings: Settings) -> io::Result<Self> {
-        let Settings { clock, log, patience } = settings;
+    pub fn start(listeners: Listeners, settings: Settings) -> io::Result<Self> {
+        let Settings { clock, log, patience, state: _ } = settings;
         let relay = Relay::new(clock).map_err(|refusal| io::Error::other(format!("no relay: {refusal}")))?;
         let random = File::open("/dev/urandom")?;
         let shared = Arc::new(Shared { relay, log, stop: Stop::default(), patience, random });
-        let ports: Vec<_> =
-            listeners.into_iter().take(PARTNERS).enumerate().map(Port::new).collect::<io::Result<_>>()?;
+        let ports: Vec<_> = listeners.first_of_each().enumerate().map(Port::new).collect::<io::Result<_>>()?;
         let logging = {
             let shared = Arc::clone(&shared);
             thread::Builder::new().spawn(move || shared.log.run())?

@@ -4,14 +4,14 @@ use std::sync::{mpsc, Arc, Mutex};
 use std::thread;
 use std::time::Duration;
 
-use server::Log;
+use server::{Log, LogFormat};
 
 #[test]
 fn a_line_is_written_once_and_its_repeats_are_counted() {
     let written = Arc::new(Mutex::new(Vec::new()));
     let log = {
         let written = Arc::clone(&written);
-        Log::new(move |line| written.lock().expect("no panic").push(line.to_owned()))
+        Log::new(LogFormat::Text, move |line| written.lock().expect("no panic").push(line.to_owned()))
     };
     let lines = || {
         log.flush();
@@ -38,7 +38,7 @@ fn a_line_is_written_once_and_its_repeats_are_counted() {
 #[test]
 fn a_log_that_is_not_taken_holds_up_nobody_and_counts_what_is_lost() {
     let (to_test, lines) = mpsc::sync_channel(0);
-    let log = Arc::new(Log::new(move |line| to_test.send(line.to_owned()).expect("the test goes on")));
+    let log = Arc::new(Log::new(LogFormat::Text, move |line| to_test.send(line.to_owned()).expect("the test goes on")));
     let writer = thread::spawn({
         let log = Arc::clone(&log);
         move || log.run()

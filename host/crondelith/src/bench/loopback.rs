@@ -7,7 +7,7 @@ use std::time::{Duration, Instant};
 
 use codec::{Message, DATA_LIMIT};
 use peer::Peer;
-use server::{bind, JumpingClock, Log, Server, Settings};
+use server::{bind_free, JumpingClock, Log, LogFormat, Server, Settings};
 
 use super::measure::Medians;
 use super::{Row, Section};
@@ -27,8 +27,8 @@ pub fn section() -> Result<Section, Failure> {
 
 fn measure() -> io::Result<Row> {
     let frame = largest_frame().ok_or(io::ErrorKind::InvalidData)?;
-    let settings = Settings::new(JumpingClock::default(), Log::new(|_| ()));
-    let server = bind(None).and_then(|listeners| Server::start(listeners, settings))?;
+    let settings = Settings::new(JumpingClock::default(), Log::new(LogFormat::Text, |_| ()));
+    let server = bind_free().and_then(|listeners| Server::start(listeners, settings))?;
     let (caller, holder) = session(&server).map_err(io::Error::other)?;
     let (mut relayed, mut copied) = (Vec::new(), Vec::new());
     for _ in 0..ROUNDS {

@@ -8,7 +8,7 @@ use std::time::{Duration, Instant};
 
 use codec::{encode, Message};
 use frames::{append, Reader};
-use server::{bind, Clock, Log, Server, Settings, Statistics, SystemClock, PARTNERS};
+use server::{bind_free, Clock, Log, LogFormat, Server, Settings, Statistics, SystemClock, PARTNERS};
 
 /// What is awaited for longer than this won't come.
 pub const LIMIT: Duration = Duration::from_secs(10);
@@ -20,7 +20,7 @@ pub struct Relay {
 
 impl Relay {
     pub fn start() -> Self {
-        Self::with_clock(SystemClock)
+        Self::with_clock(SystemClock::new())
     }
 
     pub fn with_clock(clock: impl Clock + 'static) -> Self {
@@ -31,10 +31,10 @@ impl Relay {
         let lines = Arc::new(Mutex::new(Vec::new()));
         let log = {
             let lines = Arc::clone(&lines);
-            Log::new(move |line| lines.lock().expect("no panic in a log").push(line.to_owned()))
+            Log::new(LogFormat::Text, move |line| lines.lock().expect("no panic in a log").push(line.to_owned()))
         };
         let settings = Settings { patience, ..Settings::new(clock, log) };
-        Self { server: Server::start(bind(None).expect("free ports"), settings).expect("a relay"), lines }
+        Self { server: Server::start(bind_free().expect("free ports"), settings).expect("a relay"), lines }
     }
 
     /// Stops it, and gives what each partner got and the log.
