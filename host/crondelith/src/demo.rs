@@ -60,7 +60,7 @@ fn row(name: &str, Statistics { done, waited, bytes, .. }: &Statistics) {
 /// What came of sending the file.
 struct Scene {
     time: Duration,
-    got: [Statistics; server::PARTNERS],
+    got: Vec<Statistics>,
 }
 
 /// Sends the file through a relay of its own, so that each time starts with full allowances.
@@ -75,7 +75,7 @@ fn scene(file: &[u8], with_flood: bool) -> Result<Scene, String> {
     // Allowances refill by whole seconds, so both times start with one.
     thread::sleep(SystemClock::new().until_next());
     let transferred = transfer(addresses[FILE], file);
-    let got = server.stop();
+    let got = server.stop().map_err(|error| error.to_string());
     for connection in flood {
         // The relay's end is what ends it.
         let _ = connection.join();
@@ -84,7 +84,7 @@ fn scene(file: &[u8], with_flood: bool) -> Result<Scene, String> {
     if received != file {
         return Err(format!("{} bytes of {} came, and not the same", received.len(), file.len()));
     }
-    Ok(Scene { time, got })
+    Ok(Scene { time, got: got? })
 }
 
 /// Sends the file from one connection to another of the partner and gives how long it took and what came.

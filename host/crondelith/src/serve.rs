@@ -46,8 +46,7 @@ pub fn run(arguments: Arguments) -> Outcome {
     }
     note("the relay runs; Ctrl-C ends it");
     interrupt::wait();
-    server.stop();
-    Ok(())
+    server.stop().map(drop).map_err(|error| Failure::Failed(error.to_string()))
 }
 
 fn start(listeners: Listeners) -> std::io::Result<Server> {

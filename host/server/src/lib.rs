@@ -1,27 +1,33 @@
-//! The relay over TCP: the proved engine behind sockets, queues and a clock. One port per partner; messages framed as
-//! in section 3.1 of the ScreenView paper.
+//! The relay over TCP: the proved engine behind sockets, buffers and a clock. One port per partner; messages framed as in
+//! section 3.1 of the ScreenView paper.
 //!
-//! Each connection has two threads, one that reads its messages and offers them to the engine and one that writes what
-//! is sent to it. The engine is behind a lock that is held for a call and never while anything waits, so no connection
-//! can stop another; what bounds the memory is told in `queue.rs`, and who waits for an allowance in `turns.rs`.
+//! One thread does all of it (`event_loop`): bytes come in, whole messages are offered to the engine, and what it sends goes
+//! out. A thread each for the log and the state file keep a slow terminal or disk from holding it up.
 
 mod clock;
 mod connection;
-mod lock;
+mod descriptors;
+mod event_loop;
+mod input;
+mod limits;
 mod log;
+mod output;
 mod port;
-mod queue;
+mod random;
 mod refusal;
 mod relay;
+mod saver;
 mod server;
+mod spare;
+mod state_file;
 mod statistics;
-mod stop;
 mod turns;
 
 pub use clock::{Clock, JumpingClock, SystemClock};
-pub use log::{Log, LogFormat};
+pub use limits::Limits;
+pub use log::{Event, Log, LogFormat, Place};
 pub use port::{bind, bind_free, Listeners};
-pub use server::{Server, Settings};
+pub use server::{Server, Settings, Stopper};
 pub use statistics::Statistics;
 
 pub const PARTNERS: usize = 8;

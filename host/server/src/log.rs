@@ -1,29 +1,49 @@
-//! Log lines, those of a flood summed up. A thread of their own writes them: a log that nobody takes mustn't hold up the
-//! relay.
+//! The log, with floods summed up. A thread of its own writes it: a log that nobody takes mustn't hold up the relay.
 
 use std::collections::HashMap;
-use std::fmt::Display;
-use std::sync::{Condvar, Mutex, PoisonError};
-use std::time::{Duration, Instant};
+use std::fmt::{Display, Write};
+use std::net::SocketAddr;
+use std::sync::{Condvar, Mutex, MutexGuard, PoisonError};
+use std::time::{Duration, Instant, SystemTime};
 
-use crate::lock::lock;
+use serde_json::{json, Map, Value};
+
 use crate::CONNECTIONS_EACH;
 
-/// How often repeated lines are summed up.
+/// How often floods are summed up.
 const PERIOD: Duration = Duration::from_secs(5);
+/// Lines of a kind and place that are written in a period. Further ones are only counted.
+const LINES_EACH: u64 = 10;
 /// Lines that may wait to be written. Further ones are lost, and counted.
 const BOUND: usize = 1_000;
 
 /// How a line looks.
 #[derive(Clone, Copy, Debug, Default, PartialEq, Eq)]
 pub enum LogFormat {
+    /// The time, the place and the text.
     #[default]
     Text,
+    /// An object.
     Json,
 }
 
-/// A line is written at its first time, and from then on how often it came again in each [`PERIOD`].
+/// Whom a line is about.
+#[derive(Clone, Copy, Debug, PartialEq, Eq, Hash)]
+pub enum Place {
+    Relay,
+    Partner(usize),
+    Connection(usize),
+}
+
+/// A line's kind and place: what is summed up, however the texts differ.
+#[derive(Clone, Copy, Debug, PartialEq, Eq, Hash)]
+pub struct Event {
+    pub kind: &'static str,
+    pub place: Place,
+}
+
 pub struct Log {
+    format: LogFormat,
     write: Box<dyn Fn(&str) + Send + Sync>,
     state: Mutex<State>,
     changed: Condvar,
@@ -33,55 +53,67 @@ pub struct Log {
 struct State {
     waiting: Vec<String>,
     lost: u64,
-    /// For each line of this period or the last, how often it came and wasn't written.
-    repeated: HashMap<String, u64>,
+    /// For each event of this period or the last.
+    counts: HashMap<Event, Count>,
     ended: bool,
 }
 
+#[derive(Default)]
+struct Count {
+    written: u64,
+    /// Since the last summing up.
+    only_counted: u64,
+}
+
 impl Log {
-    pub fn new(_format: LogFormat, write: impl Fn(&str) + Send + Sync + 'static) -> Self {
-        Self { write: Box::new(write), state: Mutex::default(), changed: Condvar::new() }
+    /// A log that hands each line, without a newline, to `write`.
+    pub fn new(format: LogFormat, write: impl Fn(&str) + Send + Sync + 'static) -> Self {
+        Self { format, write: Box::new(write), state: Mutex::default(), changed: Condvar::new() }
     }
 
-    pub fn of_connection(&self, connection: usize, what: impl Display) {
-        self.line(format!("partner {}, connection {connection}: {what}", connection / CONNECTIONS_EACH));
-    }
-
-    pub fn of_partner(&self, partner: usize, what: impl Display) {
-        self.line(format!("partner {partner}: {what}"));
-    }
-
-    fn line(&self, line: String) {
-        let mut state = lock(&self.state);
-        match state.repeated.get_mut(&line) {
-            Some(count) => *count += 1,
-            None => {
-                state.add(line.clone());
-                state.repeated.insert(line, 0);
-                self.changed.notify_all();
-            }
+    /// Writes a line or, in a flood, counts it.
+    pub fn record(&self, event: Event, peer: Option<SocketAddr>, text: impl Display) {
+        let mut state = self.lock();
+        let count = state.counts.entry(event).or_default();
+        if count.written == LINES_EACH {
+            count.only_counted += 1;
+            return;
         }
+        count.written += 1;
+        state.add(self.line(event, peer, &text));
+        self.changed.notify_all();
     }
 
-    /// Adds how often each line was repeated. One that wasn't is written again at its next time.
+    /// Adds how many lines of each event were only counted. An event that had none is written again at its next time.
     pub fn sum_up(&self) {
-        let mut state = lock(&self.state);
-        let repeated = std::mem::take(&mut state.repeated);
-        for (line, count) in repeated.into_iter().filter(|(_, count)| *count > 0) {
-            state.add(format!("{line} ({count} more)"));
-            state.repeated.insert(line, 0);
+        let mut state = self.lock();
+        let mut counts = std::mem::take(&mut state.counts);
+        counts.retain(|_, count| count.only_counted > 0);
+        for (event, count) in &mut counts {
+            let more = std::mem::take(&mut count.only_counted);
+            state.add(self.line(*event, None, &format_args!("{more} more times '{}'", event.kind)));
+        }
+        state.counts = counts;
+    }
+
+    fn line(&self, event: Event, peer: Option<SocketAddr>, text: &dyn Display) -> String {
+        let time = humantime::format_rfc3339_millis(SystemTime::now());
+        match self.format {
+            LogFormat::Text => text_line(time, event.place, peer, text),
+            LogFormat::Json => json_line(time, event, peer, text),
         }
     }
 
     /// Writes what waits, without the lock, since it may take long.
     pub fn flush(&self) {
         let (lines, lost) = {
-            let mut state = lock(&self.state);
+            let mut state = self.lock();
             (std::mem::take(&mut state.waiting), std::mem::take(&mut state.lost))
         };
         lines.iter().for_each(|line| (self.write)(line));
         if lost > 0 {
-            (self.write)(&format!("{lost} lines are lost, they came faster than they were taken"));
+            let event = Event { kind: "lost", place: Place::Relay };
+            (self.write)(&self.line(event, None, &format_args!("{lost} lines are lost, they came too fast")));
         }
     }
 
@@ -103,13 +135,18 @@ impl Log {
     fn wait(&self, until: Instant) -> bool {
         let time = until.saturating_duration_since(Instant::now());
         let is_idle = |state: &mut State| !state.ended && state.waiting.is_empty();
-        let waited = self.changed.wait_timeout_while(lock(&self.state), time, is_idle);
+        let waited = self.changed.wait_timeout_while(self.lock(), time, is_idle);
         !waited.unwrap_or_else(PoisonError::into_inner).0.ended
     }
 
     pub fn end(&self) {
-        lock(&self.state).ended = true;
+        self.lock().ended = true;
         self.changed.notify_all();
+    }
+
+    /// The state is whole at every moment at which a thread could panic.
+    fn lock(&self) -> MutexGuard<'_, State> {
+        self.state.lock().unwrap_or_else(PoisonError::into_inner)
     }
 }
 
@@ -121,4 +158,45 @@ impl State {
             self.lost += 1;
         }
     }
+}
+
+impl Place {
+    /// The partner and the connection, as far as the place has them.
+    fn numbers(self) -> (Option<usize>, Option<usize>) {
+        match self {
+            Self::Relay => (None, None),
+            Self::Partner(partner) => (Some(partner), None),
+            Self::Connection(connection) => (Some(connection / CONNECTIONS_EACH), Some(connection)),
+        }
+    }
+}
+
+fn text_line(time: impl Display, place: Place, peer: Option<SocketAddr>, text: &dyn Display) -> String {
+    let mut line = format!("{time} ");
+    let (partner, connection) = place.numbers();
+    // Writing to a string doesn't fail.
+    let _ = match (partner, connection) {
+        (Some(partner), Some(connection)) => write!(line, "partner {partner}, connection {connection}"),
+        (Some(partner), None) => write!(line, "partner {partner}"),
+        _ => write!(line, "the relay"),
+    };
+    if let Some(peer) = peer {
+        let _ = write!(line, " at {peer}");
+    }
+    let _ = write!(line, ": {text}");
+    line
+}
+
+fn json_line(time: impl Display, event: Event, peer: Option<SocketAddr>, text: &dyn Display) -> String {
+    let (partner, connection) = event.place.numbers();
+    let fields = [
+        ("time", Some(json!(time.to_string()))),
+        ("event", Some(json!(event.kind))),
+        ("partner", partner.map(|number| json!(number))),
+        ("connection", connection.map(|number| json!(number))),
+        ("peer", peer.map(|address| json!(address.to_string()))),
+        ("text", Some(json!(text.to_string()))),
+    ];
+    let known = fields.into_iter().filter_map(|(name, value)| Some((name.to_owned(), value?)));
+    Value::Object(known.collect::<Map<_, _>>()).to_string()
 }

@@ -1,29 +1,35 @@
-//! A partner's port: it takes at most eight connections at a time, each on a thread of its own.
+//! A partner's port: its listeners, and connections that wait for a number.
 
+use std::collections::VecDeque;
 use std::io;
-use std::net::{IpAddr, Ipv4Addr, Shutdown, SocketAddr, TcpListener, TcpStream};
-use std::sync::{Arc, Mutex};
-use std::thread::{self, JoinHandle};
-use std::time::Duration;
+use std::net::{IpAddr, Ipv4Addr, SocketAddr};
+use std::time::{Duration, Instant};
 
-use crate::connection::{Connection, Shared};
-use crate::lock::lock;
-use crate::queue::Queue;
-use crate::turns::Turns;
-use crate::{CONNECTIONS_EACH, PARTNERS};
+use mio::net::{TcpListener, TcpStream};
+use socket2::{Domain, Protocol, SockRef, Socket, TcpKeepalive, Type};
 
-/// A pause after a connection that isn't taken, so that a flood of them leaves the machine to others.
-const PAUSE: Duration = Duration::from_millis(10);
+use crate::PARTNERS;
+
+/// The kernel's buffers of a connection, each; it takes twice as much. Larger ones would let a peer send in advance what
+/// its partner then pays for long after the peer has gone.
+const KERNEL_BUFFER: usize = 65_536;
+/// Connections that the kernel keeps for a listener.
+const BACKLOG: i32 = 128;
+/// Connections of a partner that may wait for a number.
+pub const WAITING_LIMIT: usize = 8;
+/// A connection on which nothing has come for so long is probed, so often, and ended if its peer has vanished.
+const PROBE_AFTER: Duration = Duration::from_secs(30);
+const PROBE_INTERVAL: Duration = Duration::from_secs(10);
+const PROBES: u32 = 3;
 
 /// The sockets that listen for each partner: one or more.
-pub struct Listeners(Vec<Vec<TcpListener>>);
+pub struct Listeners(Vec<Vec<std::net::TcpListener>>);
 
 /// Listens on each of the addresses, for partner p on port `base_port + p`.
 pub fn bind(addresses: &[IpAddr], base_port: u16) -> io::Result<Listeners> {
     let listener = |partner, address| {
         let place = SocketAddr::new(address, base_port.saturating_add(partner));
-        TcpListener::bind(place)
-            .map_err(|error| io::Error::new(error.kind(), format!("{place} of partner {partner}: {error}")))
+        listen(place).map_err(|error| io::Error::new(error.kind(), format!("{place} of partner {partner}: {error}")))
     };
     let of_partner = |partner| addresses.iter().map(|address| listener(partner, *address)).collect();
     (0..PARTNERS as u16).map(of_partner).collect::<io::Result<_>>().map(Listeners)
@@ -31,113 +37,116 @@ pub fn bind(addresses: &[IpAddr], base_port: u16) -> io::Result<Listeners> {
 
 /// Listens on this machine's loopback address, on ports that are free.
 pub fn bind_free() -> io::Result<Listeners> {
-    let listener = || Ok(vec![TcpListener::bind((Ipv4Addr::LOCALHOST, 0))?]);
-    (0..PARTNERS).map(|_| listener()).collect::<io::Result<_>>().map(Listeners)
+    let listener = |_| Ok(vec![listen((Ipv4Addr::LOCALHOST, 0).into())?]);
+    (0..PARTNERS).map(listener).collect::<io::Result<_>>().map(Listeners)
 }
 
-impl Listeners {
-    pub fn first_of_each(self) -> impl Iterator<Item = TcpListener> {
-        self.0.into_iter().flat_map(|mut listeners| listeners.pop())
+fn listen(place: SocketAddr) -> io::Result<std::net::TcpListener> {
+    let socket = Socket::new(Domain::for_address(place), Type::STREAM, Some(Protocol::TCP))?;
+    socket.set_reuse_address(true)?;
+    if place.is_ipv6() {
+        // So that 0.0.0.0 and :: can be listened on both.
+        socket.set_only_v6(true)?;
     }
+    // Connections inherit these, which must be set before the handshake agrees on a window.
+    socket.set_recv_buffer_size(KERNEL_BUFFER)?;
+    socket.set_send_buffer_size(KERNEL_BUFFER)?;
+    socket.set_nonblocking(true)?;
+    socket.bind(&place.into())?;
+    socket.listen(BACKLOG)?;
+    Ok(socket.into())
+}
+
+/// How a connection's socket behaves. A peer that acknowledges nothing for the time limit has vanished.
+fn set_up(stream: &TcpStream, time_limit: Duration) -> io::Result<()> {
+    stream.set_nodelay(true)?;
+    let socket = SockRef::from(stream);
+    let probing = TcpKeepalive::new().with_time(PROBE_AFTER).with_interval(PROBE_INTERVAL).with_retries(PROBES);
+    socket.set_tcp_keepalive(&probing)?;
+    socket.set_tcp_user_timeout(Some(time_limit))
+}
+
+/// A connection that is to get a number.
+pub struct Candidate {
+    pub stream: TcpStream,
+    pub address: SocketAddr,
+    /// Until when it waits for one.
+    pub deadline: Instant,
 }
 
 pub struct Port {
-    partner: usize,
-    listener: TcpListener,
-    address: SocketAddr,
-    turns: Turns,
-    slots: Mutex<[Slot; CONNECTIONS_EACH]>,
+    pub listeners: Vec<TcpListener>,
+    /// Which of the listeners may have connections.
+    pub ready: Vec<bool>,
+    pub candidates: VecDeque<Candidate>,
+    /// Nothing is accepted until then, since accepting has failed.
+    pub rests_until: Option<Instant>,
 }
 
-/// A connection number of the partner.
-#[derive(Default)]
-struct Slot {
-    /// Its connection's, while it has one.
-    stream: Option<Arc<TcpStream>>,
-    /// The thread of its last connection.
-    thread: Option<JoinHandle<()>>,
+impl Listeners {
+    /// The first address of each partner.
+    pub fn addresses(&self) -> io::Result<Vec<SocketAddr>> {
+        self.0.iter().filter_map(|listeners| listeners.first()).map(|listener| listener.local_addr()).collect()
+    }
+
+    pub fn into_ports(self) -> Vec<Port> {
+        self.0.into_iter().map(Port::new).collect()
+    }
+
+    pub fn count(&self) -> usize {
+        self.0.iter().map(Vec::len).sum()
+    }
 }
 
 impl Port {
-    pub fn new((partner, listener): (usize, TcpListener)) -> io::Result<Arc<Self>> {
-        let address = listener.local_addr()?;
-        Ok(Arc::new(Self { partner, listener, address, turns: Turns::default(), slots: Mutex::default() }))
+    fn new(listeners: Vec<std::net::TcpListener>) -> Self {
+        let listeners: Vec<_> = listeners.into_iter().map(TcpListener::from_std).collect();
+        let ready = vec![true; listeners.len()];
+        Self { listeners, ready, candidates: VecDeque::new(), rests_until: None }
     }
 
-    pub fn address(&self) -> SocketAddr {
-        self.address
-    }
-
-    /// Takes connections, on a thread of its own.
-    pub fn start(self: &Arc<Self>, shared: &Arc<Shared>) -> io::Result<JoinHandle<()>> {
-        let (port, shared) = (Arc::clone(self), Arc::clone(shared));
-        thread::Builder::new().spawn(move || port.accept(&shared))
-    }
-
-    /// Takes connections until the server stops.
-    fn accept(self: &Arc<Self>, shared: &Arc<Shared>) {
-        loop {
-            let accepted = self.listener.accept();
-            if shared.stop.is_ordered() {
-                return;
+    /// Takes a connection, if one is there and room for it. It waits for a number until the deadline.
+    pub fn accept(&mut self, deadline: Instant, time_limit: Duration) -> io::Result<bool> {
+        if self.candidates.len() >= WAITING_LIMIT {
+            return Ok(false);
+        }
+        let Some(place) = self.ready.iter().position(|ready| *ready) else { return Ok(false) };
+        match self.listeners[place].accept() {
+            // It can't be set up if its peer has gone already.
+            Ok((stream, address)) => {
+                if set_up(&stream, time_limit).is_ok() {
+                    self.candidates.push_back(Candidate { stream, address, deadline });
+                }
             }
-            let taken = accepted.map_err(|error| format!("a connection failed: {error}"));
-            if let Err(why) = taken.and_then(|(stream, _)| self.take(shared, stream)) {
-                shared.log.of_partner(self.partner, why);
-                thread::sleep(PAUSE);
-            }
+            Err(error) if error.kind() == io::ErrorKind::WouldBlock => self.ready[place] = false,
+            Err(error) if is_of_the_peer(&error) => {}
+            Err(error) => return Err(error),
         }
+        Ok(true)
     }
 
-    /// Wakes the thread that waits for a connection. If as many wait as the system keeps, it is awake anyway.
-    pub fn wake(&self) {
-        let _ = TcpStream::connect_timeout(&self.address, PAUSE);
+    /// Takes out the first of those who wait for a number, if its time is over.
+    pub fn next_overdue(&mut self, now: Instant) -> Option<Candidate> {
+        self.candidates.front().is_some_and(|first| first.deadline <= now).then(|| self.candidates.pop_front())?
     }
 
-    /// Serves a connection on a thread of its own, under the lowest number that is free.
-    fn take(self: &Arc<Self>, shared: &Arc<Shared>, stream: TcpStream) -> Result<(), String> {
-        let mut slots = lock(&self.slots);
-        let Some((place, slot)) = slots.iter_mut().enumerate().find(|(_, slot)| slot.stream.is_none()) else {
-            return Err(format!("a connection is refused, all {CONNECTIONS_EACH} of this partner are in use"));
-        };
-        stream.set_nodelay(true).map_err(|error| format!("a connection failed: {error}"))?;
-        let stream = Arc::new(stream);
-        let thread = {
-            let (port, shared, stream) = (Arc::clone(self), Arc::clone(shared), Arc::clone(&stream));
-            thread::Builder::new().spawn(move || port.serve(&shared, place, &stream))
-        };
-        slot.thread = Some(thread.map_err(|error| format!("a connection is refused, no thread for it: {error}"))?);
-        slot.stream = Some(stream);
-        Ok(())
+    /// Takes nothing any more, and nobody waits for a number.
+    pub fn shut(&mut self) {
+        self.listeners.clear();
+        self.ready.clear();
+        self.candidates.clear();
     }
 
-    fn serve(&self, shared: &Shared, place: usize, stream: &TcpStream) {
-        let number = self.partner * CONNECTIONS_EACH + place;
-        shared.log.of_connection(number, "connected");
-        let connection = Connection { shared, turns: &self.turns, number, queue: Arc::new(Queue::default()) };
-        let end = connection.serve(stream);
-        shared.log.of_connection(number, end);
-        // Only now: a partner can't have more threads and queues than connections.
-        lock(&self.slots)[place].stream = None;
+    /// When something is due here next.
+    pub fn deadline(&self) -> Option<Instant> {
+        self.candidates.front().map(|first| first.deadline).into_iter().chain(self.rests_until).min()
     }
+}
 
-    /// Whether it has no connection.
-    pub fn is_idle(&self) -> bool {
-        lock(&self.slots).iter().all(|slot| slot.stream.is_none())
-    }
-
-    pub fn shut_down(&self, how: Shutdown) {
-        for stream in lock(&self.slots).iter().filter_map(|slot| slot.stream.as_ref()) {
-            // It may have ended by itself.
-            let _ = stream.shutdown(how);
-        }
-    }
-
-    /// Waits for the threads of its connections, which have been shut down.
-    pub fn join(&self) {
-        let threads: Vec<_> = lock(&self.slots).iter_mut().filter_map(|slot| slot.thread.take()).collect();
-        for thread in threads {
-            let _ = thread.join();
-        }
-    }
+/// Whether a connection failed before it was accepted, which is no failure of the listener.
+fn is_of_the_peer(error: &io::Error) -> bool {
+    matches!(
+        error.kind(),
+        io::ErrorKind::ConnectionAborted | io::ErrorKind::ConnectionReset | io::ErrorKind::Interrupted
+    )
 }

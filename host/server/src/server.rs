@@ -1,110 +1,143 @@
-//! The server: a port for each partner, and its threads.
+//! The server: the loop on a thread of its own, as the rest of a program sees it.
 
-use std::fs::File;
 use std::io;
-use std::net::{Shutdown, SocketAddr};
+use std::net::SocketAddr;
 use std::path::PathBuf;
+use std::sync::mpsc::{self, Sender};
 use std::sync::Arc;
 use std::thread::{self, JoinHandle};
 use std::time::{Duration, Instant};
 
-use crate::clock::Clock;
-use crate::connection::Shared;
-use crate::log::Log;
-use crate::port::{Listeners, Port};
-use crate::relay::Relay;
-use crate::statistics::Statistics;
-use crate::stop::Stop;
-use crate::PARTNERS;
+use mio::{Poll, Waker};
 
-/// How long the server's end waits for what is still to be written, and then for the log.
-const LAST_WORDS: Duration = Duration::from_secs(2);
+use crate::clock::Clock;
+use crate::descriptors;
+use crate::event_loop::{EventLoop, Parts, WAKER};
+use crate::limits::Limits;
+use crate::log::Log;
+use crate::port::{Listeners, WAITING_LIMIT};
+use crate::relay::Relay;
+use crate::saver::Saver;
+use crate::state_file::StateFile;
+use crate::statistics::Statistics;
+use crate::{CONNECTIONS_EACH, PARTNERS};
+
+/// How long the server's end waits for the log.
+const LOG_WAIT: Duration = Duration::from_secs(2);
 const POLL: Duration = Duration::from_millis(10);
 
 /// What a relay is started with.
 pub struct Settings {
     pub clock: Box<dyn Clock>,
     pub log: Log,
-    /// How long a peer may leave next to everything unread that is sent to it before it is given up.
-    pub patience: Duration,
+    pub limits: Limits,
     /// Where the tables are kept from one run to the next.
     pub state: Option<PathBuf>,
 }
 
 impl Settings {
     pub fn new(clock: impl Clock + 'static, log: Log) -> Self {
-        Self { clock: Box::new(clock), log, patience: Duration::from_secs(30), state: None }
+        Self { clock: Box::new(clock), log, limits: Limits::default(), state: None }
     }
+}
+
+/// What the loop can be told.
+pub enum Command {
+    Statistics(Sender<Vec<Statistics>>),
+    Stop,
 }
 
 /// A running relay. It goes on until it is stopped.
 pub struct Server {
-    shared: Arc<Shared>,
-    ports: Vec<Arc<Port>>,
-    accepting: Vec<JoinHandle<()>>,
+    addresses: Vec<SocketAddr>,
+    stopper: Stopper,
+    running: JoinHandle<io::Result<Vec<Statistics>>>,
+    log: Arc<Log>,
     logging: JoinHandle<()>,
 }
 
-impl Server {
-    /// Starts a fresh relay on the listeners, one for each partner.
-    pub fn start(listeners: Listeners, settings: Settings) -> io::Result<Self> {
-        let Settings { clock, log, patience, state: _ } = settings;
-        let relay = Relay::new(clock).map_err(|refusal| io::Error::other(format!("no relay: {refusal}")))?;
-        let random = File::open("/dev/urandom")?;
-        let shared = Arc::new(Shared { relay, log, stop: Stop::default(), patience, random });
-        let ports: Vec<_> = listeners.first_of_each().enumerate().map(Port::new).collect::<io::Result<_>>()?;
-        let logging = {
-            let shared = Arc::clone(&shared);
-            thread::Builder::new().spawn(move || shared.log.run())?
-        };
-        let accepting = ports.iter().map(|port| Port::start(port, &shared)).collect::<io::Result<_>>()?;
-        Ok(Self { shared, ports, accepting, logging })
+/// Stops a relay, from any thread. It needs no file descriptor.
+#[derive(Clone)]
+pub struct Stopper {
+    commands: Sender<Command>,
+    waker: Arc<Waker>,
+}
+
+impl Stopper {
+    pub fn stop(&self) {
+        self.tell(Command::Stop);
     }
 
-    /// The address of each partner's port.
-    pub fn addresses(&self) -> Vec<SocketAddr> {
-        self.ports.iter().map(|port| port.address()).collect()
-    }
-
-    pub fn statistics(&self) -> [Statistics; PARTNERS] {
-        self.shared.relay.statistics()
-    }
-
-    /// Ends every connection, and gives what is still to be written a moment. Logs and gives what each partner got.
-    pub fn stop(mut self) -> [Statistics; PARTNERS] {
-        self.stop_accepting();
-        self.end_connections();
-        let statistics = self.statistics();
-        let partners = statistics.iter().enumerate();
-        partners.filter(|(_, got)| **got != Statistics::default()).for_each(|(partner, got)| {
-            self.shared.log.of_partner(partner, got);
-        });
-        self.shared.log.end();
-        // Somebody may have stopped taking the log: then it is left.
-        wait_until(|| self.logging.is_finished());
-        statistics
-    }
-
-    fn stop_accepting(&mut self) {
-        self.shared.stop.order();
-        self.ports.iter().for_each(|port| port.wake());
-        for thread in self.accepting.drain(..) {
-            let _ = thread.join();
-        }
-    }
-
-    fn end_connections(&self) {
-        self.ports.iter().for_each(|port| port.shut_down(Shutdown::Read));
-        wait_until(|| self.ports.iter().all(|port| port.is_idle()));
-        self.ports.iter().for_each(|port| port.shut_down(Shutdown::Both));
-        self.ports.iter().for_each(|port| port.join());
+    /// Whether the loop is there to be told.
+    fn tell(&self, command: Command) -> bool {
+        self.commands.send(command).is_ok() && self.waker.wake().is_ok()
     }
 }
 
-/// Waits until the condition holds, but no longer than [`LAST_WORDS`].
-fn wait_until(condition: impl Fn() -> bool) {
-    let limit = Instant::now() + LAST_WORDS;
-    while Instant::now() < limit && !condition() {
-        thread::sleep(POLL);
+impl Server {
+    /// Starts a relay on the listeners: a fresh one, or one that goes on with the state that was saved.
+    pub fn start(listeners: Listeners, settings: Settings) -> io::Result<Self> {
+        let Settings { clock, log, limits, state } = settings;
+        descriptors::provide(listeners.count() + PARTNERS * (CONNECTIONS_EACH + WAITING_LIMIT))?;
+        let log = Arc::new(log);
+        let (relay, saver) = begin(clock, state, &log)?;
+        let poll = Poll::new()?;
+        let (sender, commands) = mpsc::channel();
+        let stopper = Stopper { commands: sender, waker: Arc::new(Waker::new(poll.registry(), WAKER)?) };
+        let addresses = listeners.addresses()?;
+        let parts = Parts { poll, listeners, relay, log: Arc::clone(&log), limits, saver, commands };
+        let event_loop = EventLoop::new(parts)?;
+        let logging = {
+            let log = Arc::clone(&log);
+            thread::Builder::new().name("log".into()).spawn(move || log.run())?
+        };
+        let running = thread::Builder::new().name("relay".into()).spawn(move || event_loop.run())?;
+        Ok(Self { addresses, stopper, running, log, logging })
     }
+
+    /// The first address of each partner's port.
+    pub fn addresses(&self) -> &[SocketAddr] {
+        &self.addresses
+    }
+
+    /// What each partner got so far.
+    pub fn statistics(&self) -> Vec<Statistics> {
+        let (sender, statistics) = mpsc::channel();
+        self.stopper.tell(Command::Statistics(sender));
+        statistics.recv().unwrap_or_else(|_| vec![Statistics::default(); PARTNERS])
+    }
+
+    pub fn stopper(&self) -> Stopper {
+        self.stopper.clone()
+    }
+
+    /// Ends every connection, and gives what is still to be written a moment. Gives what each partner got.
+    pub fn stop(self) -> io::Result<Vec<Statistics>> {
+        self.stopper.stop();
+        self.join()
+    }
+
+    /// Waits until the relay has been stopped, or has failed.
+    pub fn join(self) -> io::Result<Vec<Statistics>> {
+        let outcome = self.running.join().unwrap_or_else(|_| Err(io::Error::other("the relay failed")));
+        self.log.end();
+        // Somebody may have stopped taking the log: then it is left.
+        let limit = Instant::now() + LOG_WAIT;
+        while Instant::now() < limit && !self.logging.is_finished() {
+            thread::sleep(POLL);
+        }
+        outcome
+    }
+}
+
+fn begin(clock: Box<dyn Clock>, state: Option<PathBuf>, log: &Arc<Log>) -> io::Result<(Relay, Option<Saver>)> {
+    let refused = |refusal| io::Error::other(format!("no relay: {refusal}"));
+    let Some(path) = state else { return Ok((Relay::fresh(clock).map_err(refused)?, None)) };
+    let (file, saved) = StateFile::open(&path)?;
+    let relay = match saved {
+        Some(tables) => Relay::restored(clock, tables).map_err(refused)?,
+        None => Relay::fresh(clock).map_err(refused)?,
+    };
+    let saver = Saver::start(file, relay.tables(), Arc::clone(log))?;
+    Ok((relay, Some(saver)))
 }

@@ -1,39 +1,116 @@
-//! Turns among the connections of a partner, first come first served. Who is refused for allowance keeps the turn while
-//! it waits: else small messages of the partner's other connections could take every refill before a large one.
+//! Turns among the connections of a partner that have something to offer: deficit round robin, so that they share what
+//! their partner has by its bytes and not by messages. Who is refused for allowance keeps the turn while it waits: else
+//! small messages of the partner's other connections could take every refill before a large one.
 
-use std::sync::{Condvar, Mutex};
+use std::collections::VecDeque;
 
-use crate::lock::{lock, wait_while};
+use crate::CONNECTIONS_EACH;
+
+/// What a connection may spend more when the turn has passed it.
+const QUANTUM: usize = 4_096;
 
 #[derive(Default)]
 pub struct Turns {
-    state: Mutex<State>,
-    changed: Condvar,
+    /// Connections that have something to offer. The first has the turn.
+    queue: VecDeque<usize>,
+    /// What each may still spend, by its place among the partner's.
+    credit: [usize; CONNECTIONS_EACH],
+    /// The first has been refused for allowance and waits for the next second.
+    pub waiting: bool,
 }
-
-#[derive(Default)]
-struct State {
-    next: u64,
-    serving: u64,
-}
-
-/// A turn, until it is dropped.
-pub struct Turn<'a>(&'a Turns);
 
 impl Turns {
-    /// Waits for a turn.
-    pub fn take(&self) -> Turn<'_> {
-        let mut state = lock(&self.state);
-        let ticket = state.next;
-        state.next += 1;
-        drop(wait_while(&self.changed, state, |state| state.serving != ticket));
-        Turn(self)
+    /// Whose turn it is, if anybody can do anything.
+    pub fn next(&self) -> Option<usize> {
+        self.queue.front().copied().filter(|_| !self.waiting)
+    }
+
+    pub fn join(&mut self, connection: usize) {
+        if !self.queue.contains(&connection) {
+            self.queue.push_back(connection);
+        }
+    }
+
+    /// It has nothing to offer any more, and saves nothing up.
+    pub fn leave(&mut self, connection: usize) {
+        if self.queue.front() == Some(&connection) {
+            self.waiting = false;
+        }
+        self.queue.retain(|other| *other != connection);
+        self.credit[connection % CONNECTIONS_EACH] = 0;
+    }
+
+    /// Whether the one whose turn it is may spend this much. If not yet, the turn passes on.
+    pub fn affords(&mut self, cost: usize) -> bool {
+        let Some(first) = self.queue.front() else { return false };
+        let credit = &mut self.credit[first % CONNECTIONS_EACH];
+        let enough = *credit >= cost;
+        if !enough {
+            *credit += QUANTUM;
+            self.queue.rotate_left(1);
+        }
+        enough
+    }
+
+    /// It has spent what it could afford.
+    pub fn spend(&mut self, connection: usize, cost: usize) {
+        let credit = &mut self.credit[connection % CONNECTIONS_EACH];
+        *credit = credit.saturating_sub(cost);
     }
 }
 
-impl Drop for Turn<'_> {
-    fn drop(&mut self) {
-        lock(&self.0.state).serving += 1;
-        self.0.changed.notify_all();
+#[cfg(test)]
+mod tests {
+    use super::Turns;
+
+    /// Who spends what in so many rounds, if each offers messages of its cost without end.
+    fn spent(costs: &[usize], messages: usize) -> Vec<usize> {
+        let mut turns = Turns::default();
+        (0..costs.len()).for_each(|connection| turns.join(connection));
+        let mut spent = vec![0; costs.len()];
+        for _ in 0..messages {
+            let next = loop {
+                let next = turns.next().expect("somebody");
+                if turns.affords(costs[next]) {
+                    break next;
+                }
+            };
+            turns.spend(next, costs[next]);
+            spent[next] += costs[next];
+        }
+        spent
+    }
+
+    #[test]
+    fn bytes_are_shared_and_not_messages() {
+        let spent = spent(&[65_566, 33, 1_056], 30_000);
+        let (least, most) = (spent.iter().min().expect("three"), spent.iter().max().expect("three"));
+        assert!(*least > 500_000 && most - least <= 2 * 65_566, "{spent:?}");
+    }
+
+    #[test]
+    fn who_waits_keeps_the_turn_and_gives_it_up_by_leaving() {
+        let mut turns = Turns::default();
+        turns.join(8);
+        turns.join(9);
+        turns.join(8);
+        assert_eq!(turns.next(), Some(8));
+        turns.waiting = true;
+        assert_eq!(turns.next(), None);
+        turns.leave(9);
+        assert_eq!(turns.next(), None, "the first still waits");
+        turns.join(9);
+        turns.leave(8);
+        assert_eq!(turns.next(), Some(9));
+    }
+
+    #[test]
+    fn nothing_is_saved_up_by_who_has_nothing_to_offer() {
+        let mut turns = Turns::default();
+        turns.join(0);
+        assert!(!turns.affords(5_000) && !turns.affords(5_000) && turns.affords(5_000));
+        turns.leave(0);
+        turns.join(0);
+        assert!(!turns.affords(1));
     }
 }

@@ -35,7 +35,7 @@ fn measure() -> io::Result<Row> {
         relayed.push(round(caller.stream(), holder.stream(), &frame)?);
         copied.push(plain_round(&frame)?);
     }
-    server.stop();
+    server.stop()?;
     let medians = Medians { engine: nanoseconds(relayed), other: nanoseconds(copied) };
     let rate = |nanoseconds: f64| frame.len() as f64 * 1e3 / nanoseconds;
     let (relay, plain) = (rate(medians.engine), rate(medians.other));

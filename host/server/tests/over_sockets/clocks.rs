@@ -20,7 +20,7 @@ impl Standing {
 }
 
 impl Clock for Standing {
-    fn now(&self) -> u64 {
+    fn now(&mut self) -> u64 {
         self.0.load(Ordering::SeqCst)
     }
 
@@ -39,7 +39,7 @@ impl Backward {
 }
 
 impl Clock for Backward {
-    fn now(&self) -> u64 {
+    fn now(&mut self) -> u64 {
         self.0.fetch_sub(1, Ordering::Relaxed)
     }
 

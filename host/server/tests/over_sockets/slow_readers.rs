@@ -4,7 +4,7 @@ use std::io::Write;
 use std::time::Duration;
 
 use codec::{encode, Message};
-use server::JumpingClock;
+use server::{JumpingClock, Limits};
 
 use crate::support::{assert_stops, Relay};
 
@@ -43,7 +43,8 @@ fn the_sender_to_a_slow_reader_waits_and_nothing_is_lost() {
 
 #[test]
 fn a_peer_that_reads_nothing_is_given_up_and_its_sender_goes_on() {
-    let relay = Relay::with_patience(JumpingClock::default(), Duration::from_secs(1));
+    let relay =
+        Relay::with_limits(JumpingClock::default(), Limits { patience: Duration::from_secs(1), ..Limits::default() });
     let (mut caller, mut holder) = (relay.peer(0), relay.peer(0));
     caller.establish(&mut holder);
     let frame = longest_send();

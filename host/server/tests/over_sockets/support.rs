@@ -8,7 +8,7 @@ use std::time::{Duration, Instant};
 
 use codec::{encode, Message};
 use frames::{append, Reader};
-use server::{bind_free, Clock, Log, LogFormat, Server, Settings, Statistics, SystemClock, PARTNERS};
+use server::{bind_free, Clock, Limits, Log, LogFormat, Server, Settings, Statistics, SystemClock};
 
 /// What is awaited for longer than this won't come.
 pub const LIMIT: Duration = Duration::from_secs(10);
@@ -24,22 +24,27 @@ impl Relay {
     }
 
     pub fn with_clock(clock: impl Clock + 'static) -> Self {
-        Self::with_patience(clock, LIMIT)
+        Self::with_limits(clock, Limits::default())
     }
 
-    pub fn with_patience(clock: impl Clock + 'static, patience: Duration) -> Self {
+    pub fn with_limits(clock: impl Clock + 'static, limits: Limits) -> Self {
+        Self::with_settings(clock, |settings| settings.limits = limits)
+    }
+
+    pub fn with_settings(clock: impl Clock + 'static, adapt: impl FnOnce(&mut Settings)) -> Self {
         let lines = Arc::new(Mutex::new(Vec::new()));
         let log = {
             let lines = Arc::clone(&lines);
-            Log::new(LogFormat::Text, move |line| lines.lock().expect("no panic in a log").push(line.to_owned()))
+            Log::new(LogFormat::Text, move |line| lines.lock().expect("no panic in a log").push(plain(line)))
         };
-        let settings = Settings { patience, ..Settings::new(clock, log) };
+        let mut settings = Settings::new(clock, log);
+        adapt(&mut settings);
         Self { server: Server::start(bind_free().expect("free ports"), settings).expect("a relay"), lines }
     }
 
     /// Stops it, and gives what each partner got and the log.
-    pub fn stop(self) -> ([Statistics; PARTNERS], Vec<String>) {
-        let statistics = self.server.stop();
+    pub fn stop(self) -> (Vec<Statistics>, Vec<String>) {
+        let statistics = self.server.stop().expect("an end in order");
         (statistics, self.lines.lock().expect("no panic in a log").clone())
     }
 
@@ -93,6 +98,15 @@ impl Relay {
 
     pub fn has_line(&self, text: &str) -> bool {
         self.lines.lock().expect("no panic in a log").iter().any(|line| line.contains(text))
+    }
+}
+
+/// A line of the log without its time and the peer's address, which differ from run to run.
+fn plain(line: &str) -> String {
+    let (_, line) = line.split_once(' ').expect("a time");
+    match line.split_once(" at 127.0.0.1:") {
+        Some((place, rest)) => format!("{place}{}", rest.trim_start_matches(|digit: char| digit.is_ascii_digit())),
+        None => line.to_owned(),
     }
 }
 

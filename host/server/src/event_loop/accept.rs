@@ -1,0 +1,87 @@
+//! Connections: from the listener to a number.
+
+use std::time::Duration;
+
+use mio::{Interest, Token};
+
+use super::EventLoop;
+use crate::connection::Connection;
+use crate::log::{Event, Place};
+use crate::port::Candidate;
+use crate::{CONNECTIONS_EACH, PARTNERS};
+
+/// How long nothing is accepted after accepting has failed, for want of file descriptors say.
+const REST: Duration = Duration::from_millis(100);
+
+impl EventLoop {
+    /// Accepts connections, as many as can have a number or wait for one.
+    pub(super) fn accept(&mut self) {
+        for partner in 0..self.partners.len() {
+            while self.accept_one(partner) {
+                self.admit(partner);
+            }
+        }
+    }
+
+    fn accept_one(&mut self, partner: usize) -> bool {
+        let deadline = self.now + self.limits.number;
+        let port = &mut self.partners[partner].port;
+        if port.rests_until.is_some() {
+            return false;
+        }
+        // The kernel gives up on a peer that is gone later than the loop gives up on one that reads nothing.
+        match port.accept(deadline, 2 * self.limits.patience) {
+            Ok(goes_on) => goes_on,
+            Err(error) => {
+                port.rests_until = Some(self.now + REST);
+                self.wake_by(self.now + REST);
+                self.log_partner(partner, "not accepted", format_args!("a connection failed: {error}"));
+                false
+            }
+        }
+    }
+
+    /// Gives the numbers that are free to those who wait for one, the lowest first.
+    pub(super) fn admit(&mut self, partner: usize) {
+        let numbers = partner * CONNECTIONS_EACH..(partner + 1) * CONNECTIONS_EACH;
+        for number in numbers {
+            if self.connections[number].is_none() {
+                let Some(candidate) = self.partners[partner].port.candidates.pop_front() else { return };
+                self.begin(number, candidate);
+            }
+        }
+        if let Some(deadline) = self.partners[partner].port.candidates.front().map(|first| first.deadline) {
+            self.wake_by(deadline);
+        }
+    }
+
+    /// A connection begins: it is opened in its turn.
+    fn begin(&mut self, number: usize, Candidate { mut stream, address, .. }: Candidate) {
+        let interest = Interest::READABLE | Interest::WRITABLE;
+        if let Err(error) = self.poll.registry().register(&mut stream, Token(number), interest) {
+            self.log_partner(number / CONNECTIONS_EACH, "not accepted", format_args!("a connection failed: {error}"));
+            return;
+        }
+        self.connections[number] = Some(Connection::new(stream, address));
+        self.log_connection(number, "connected", "connected");
+        self.partner_of(number).turns.join(number);
+    }
+
+    /// Turns those away who have waited for a number long enough.
+    pub(super) fn turn_away(&mut self) {
+        for partner in 0..PARTNERS.min(self.partners.len()) {
+            let now = self.now;
+            let port = &mut self.partners[partner].port;
+            port.rests_until = port.rests_until.filter(|time| *time > now);
+            while let Some(Candidate { address, .. }) = port.next_overdue(now) {
+                let event = Event { kind: "turned away", place: Place::Partner(partner) };
+                let text = format_args!("a connection is refused, all {CONNECTIONS_EACH} of this partner are in use");
+                self.log.record(event, Some(address), text);
+            }
+        }
+    }
+
+    fn log_partner(&self, partner: usize, kind: &'static str, text: impl std::fmt::Display) {
+        self.log.record(Event { kind, place: Place::Partner(partner) }, None, text);
+    }
+}

@@ -1,0 +1,100 @@
+//! What happens because time has passed.
+
+use std::time::{Duration, Instant};
+
+use super::EventLoop;
+use crate::connection::{Connection, End, Hold, Progress};
+use crate::log::{Event, Place};
+
+/// How often the state is saved and the clock compared with the machine's.
+const TICK: Duration = Duration::from_millis(500);
+/// Seconds by which the machine's time may differ from the relay's without a line in the log.
+const DRIFT: u64 = 2;
+
+impl EventLoop {
+    /// Acts on the deadlines that have passed, and finds the next.
+    pub(super) fn expire(&mut self) {
+        if self.now < self.earliest {
+            return;
+        }
+        self.retry_waiting();
+        self.turn_away();
+        (0..self.connections.len()).for_each(|number| self.expire_connection(number));
+        if self.tick <= self.now {
+            self.tick = self.now + TICK;
+            self.save_state();
+            self.compare_clocks();
+        }
+        self.earliest = self.next_deadline();
+    }
+
+    fn next_deadline(&self) -> Instant {
+        let ports = self.partners.iter().filter_map(|partner| partner.port.deadline());
+        let patience = self.limits.patience;
+        let connections = self.connections.iter().flatten().flat_map(|connection| connection.deadlines(patience));
+        let others = self.retry.into_iter().chain(self.stops);
+        ports.chain(connections).chain(others).fold(self.tick, Instant::min)
+    }
+
+    /// A new second has come for those who wait for allowance.
+    fn retry_waiting(&mut self) {
+        if self.retry.is_some_and(|retry| retry <= self.now) {
+            self.retry = None;
+            self.partners.iter_mut().for_each(|partner| partner.turns.waiting = false);
+        }
+    }
+
+    fn expire_connection(&mut self, number: usize) {
+        let (now, limits) = (self.now, self.limits);
+        let Some(connection) = &mut self.connections[number] else { return };
+        if connection.due.is_some_and(|due| due <= now) {
+            // A message that has come in time may wait for its turn.
+            if connection.input.message().is_ok_and(|message| message.is_some()) {
+                connection.due = Some(now + limits.frame);
+            } else {
+                let phase = connection.phase;
+                return self.end(number, End::Silent(phase));
+            }
+        }
+        if connection.progress.is_some_and(|progress| progress.since + limits.patience <= now) {
+            let slow = connection.progress.is_some_and(|progress| progress.written < limits.least_progress);
+            if slow {
+                return self.end(number, End::GivenUp);
+            }
+            connection.progress = Some(Progress { since: now, written: 0 });
+        }
+        if matches!(connection.hold, Some(Hold::Pause(until)) if until <= now) {
+            connection.hold = None;
+            self.go_on(number);
+        }
+    }
+
+    fn save_state(&mut self) {
+        if let Some(saver) = &mut self.saver {
+            saver.save(self.relay.tables());
+        }
+    }
+
+    fn compare_clocks(&mut self) {
+        let drift = self.relay.clock().drift();
+        if drift.abs_diff(self.told_drift) > DRIFT {
+            let event = Event { kind: "clock", place: Place::Relay };
+            let text =
+                format_args!("the machine's time was set: it is {drift} s from the relay's, which goes on as before");
+            self.log.record(event, None, text);
+            self.told_drift = drift;
+        }
+    }
+}
+
+impl Connection {
+    /// When something is due of it.
+    fn deadlines(&self, patience: Duration) -> impl Iterator<Item = Instant> {
+        let pause = match self.hold {
+            Some(Hold::Pause(until)) => Some(until),
+            _ => None,
+        };
+        let progress = self.progress.map(|progress| progress.since + patience);
+        [self.due, pause, progress].into_iter().flatten()
+    }
+}

@@ -1,0 +1,83 @@
+//! What an accepted call sends, put into the outputs that it is for.
+
+use engine::relay::{Answer, NOBODY};
+
+use super::EventLoop;
+
+/// Type of a request to establish a session.
+const ESTABLISH: u8 = 6;
+/// Type of SessionEnd.
+const SESSION_END: u8 = 9;
+
+impl EventLoop {
+    pub(super) fn deliver_reply(&mut self, caller: usize, answer: Answer, reply: &[u8]) {
+        if answer.reply > 0 {
+            self.outputs[caller].append(&reply[..answer.reply as usize], &mut self.spare_outputs);
+            self.filled.push(caller);
+        }
+    }
+
+    /// What is relayed stands in the room of an output, or else in the scratch buffer.
+    pub(super) fn deliver_relay(&mut self, caller: usize, answer: Answer, output: Option<usize>) {
+        let Some(destination) = destination(answer) else { return };
+        let length = answer.relay as usize;
+        match output {
+            Some(output) if output == destination => self.outputs[destination].commit(length),
+            Some(output) => {
+                // Not met: the host pairs as the engine does.
+                let copy = self.outputs[output].room(length, &mut self.spare_outputs).to_vec();
+                self.outputs[destination].append(&copy, &mut self.spare_outputs);
+            }
+            None => self.outputs[destination].append(&self.scratch[..length], &mut self.spare_outputs),
+        }
+        debug_assert!(destination != caller);
+        self.filled.push(destination);
+    }
+
+    /// Sessions, as the engine has them: one begins with the notification of its establishing, and ends with that of its
+    /// end.
+    pub(super) fn follow_session(&mut self, caller: usize, kind: Option<u8>, answer: Answer) {
+        let Some(destination) = destination(answer) else { return };
+        match kind {
+            Some(ESTABLISH) => self.pair(caller, destination),
+            Some(SESSION_END) => self.part(caller),
+            _ => {}
+        }
+    }
+
+    fn pair(&mut self, one: usize, other: usize) {
+        for (number, paired) in [(one, other), (other, one)] {
+            if let Some(connection) = &mut self.connections[number] {
+                connection.paired = Some(paired);
+            }
+        }
+    }
+
+    /// Ends a connection's session, if it has one.
+    pub(super) fn part(&mut self, number: usize) {
+        let paired = self.connections[number].as_mut().and_then(|connection| connection.paired.take());
+        if let Some(other) = paired.and_then(|paired| self.connections[paired].as_mut()) {
+            other.paired = None;
+        }
+    }
+
+    /// The output that an accepted call has left full, after as much as possible of it is written.
+    pub(super) fn full_output(&mut self, caller: usize, answer: Answer) -> Option<usize> {
+        let replied = (answer.reply > 0).then_some(caller);
+        let full = |this: &Self, number: usize| this.outputs[number].is_full();
+        for number in replied.into_iter().chain(destination(answer)) {
+            if full(self, number) {
+                self.write(number);
+            }
+            if full(self, number) {
+                return Some(number);
+            }
+        }
+        None
+    }
+}
+
+/// The connection that something is relayed to.
+fn destination(answer: Answer) -> Option<usize> {
+    (answer.relay > 0 && answer.destination != NOBODY).then_some(answer.destination as usize)
+}

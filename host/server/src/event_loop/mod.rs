@@ -1,0 +1,206 @@
+//! The loop: one thread that owns the engine's tables, the sockets and their buffers, so that there is nothing to lock.
+//!
+//! A turn of it waits until something has happened, accepts connections, reads once from each connection that has sent
+//! something, offers whole messages to the engine, each partner's in its turns and up to its share of a turn, and writes
+//! what the engine has put into the outputs, once for each.
+
+mod accept;
+mod deadlines;
+mod deliver;
+mod end;
+mod read;
+mod serve;
+mod stop;
+mod write;
+
+use std::io;
+use std::sync::mpsc::Receiver;
+use std::sync::Arc;
+use std::time::{Duration, Instant};
+
+use frames::MESSAGE_LIMIT;
+use mio::event::Event;
+use mio::{Events, Interest, Poll, Token};
+
+use crate::connection::Connection;
+use crate::limits::Limits;
+use crate::log::{self, Log, Place};
+use crate::output::Output;
+use crate::port::{Listeners, Port};
+use crate::random::Random;
+use crate::relay::Relay;
+use crate::saver::Saver;
+use crate::server::Command;
+use crate::spare::Spare;
+use crate::statistics::Statistics;
+use crate::turns::Turns;
+use crate::{input, output, CONNECTIONS_EACH, PARTNERS};
+
+/// All partners' connections.
+const CONNECTIONS: usize = PARTNERS * CONNECTIONS_EACH;
+/// Events that are taken at a time.
+const EVENTS: usize = 256;
+/// Connections have their numbers as tokens, listeners the numbers that follow.
+const FIRST_LISTENER: usize = CONNECTIONS;
+pub const WAKER: Token = Token(usize::MAX);
+
+pub struct EventLoop {
+    poll: Poll,
+    relay: Relay,
+    random: Random,
+    log: Arc<Log>,
+    limits: Limits,
+    saver: Option<Saver>,
+    commands: Receiver<Command>,
+    connections: Vec<Option<Connection>>,
+    /// Apart from the connections: a message of one is written into the output of another.
+    outputs: Vec<Output>,
+    spare_inputs: Spare,
+    spare_outputs: Spare,
+    /// Lent for what is relayed where the output isn't known beforehand.
+    scratch: Box<[u8]>,
+    partners: Vec<Partner>,
+    /// The one that is served first in the next turn.
+    first_partner: usize,
+    /// Connections that can be read.
+    ready: Vec<usize>,
+    /// Connections whose output something was added to.
+    filled: Vec<usize>,
+    /// When this turn began.
+    now: Instant,
+    /// No deadline is earlier.
+    earliest: Instant,
+    /// When those who wait for allowance try again.
+    retry: Option<Instant>,
+    /// When the state and the clock are looked at.
+    tick: Instant,
+    /// The drift of the clock that the log has.
+    told_drift: u64,
+    /// The relay ends, at this time even if something is still to be written.
+    stops: Option<Instant>,
+}
+
+/// What belongs to a partner.
+struct Partner {
+    port: Port,
+    turns: Turns,
+    statistics: Statistics,
+}
+
+/// What the loop works with.
+pub struct Parts {
+    pub poll: Poll,
+    pub listeners: Listeners,
+    pub relay: Relay,
+    pub log: Arc<Log>,
+    pub limits: Limits,
+    pub saver: Option<Saver>,
+    pub commands: Receiver<Command>,
+}
+
+impl EventLoop {
+    pub fn new(parts: Parts) -> io::Result<Self> {
+        let Parts { poll, listeners, relay, log, limits, saver, commands } = parts;
+        let now = Instant::now();
+        let partner = |port| Partner { port, turns: Turns::default(), statistics: Statistics::default() };
+        let mut new = Self {
+            poll,
+            relay,
+            random: Random::new(),
+            log,
+            limits,
+            saver,
+            commands,
+            connections: (0..CONNECTIONS).map(|_| None).collect(),
+            outputs: (0..CONNECTIONS).map(|_| Output::default()).collect(),
+            spare_inputs: Spare::new(input::CAPACITY),
+            spare_outputs: Spare::new(output::CAPACITY),
+            scratch: vec![0; MESSAGE_LIMIT].into(),
+            partners: listeners.into_ports().into_iter().map(partner).collect(),
+            first_partner: 0,
+            ready: Vec::new(),
+            filled: Vec::new(),
+            now,
+            earliest: now,
+            retry: None,
+            tick: now,
+            told_drift: 0,
+            stops: None,
+        };
+        new.register_listeners()?;
+        Ok(new)
+    }
+
+    fn register_listeners(&mut self) -> io::Result<()> {
+        let listeners = self.partners.iter_mut().flat_map(|partner| &mut partner.port.listeners);
+        for (place, listener) in listeners.enumerate() {
+            self.poll.registry().register(listener, Token(FIRST_LISTENER + place), Interest::READABLE)?;
+        }
+        Ok(())
+    }
+
+    /// Runs until it is stopped. Gives what each partner got.
+    pub fn run(mut self) -> io::Result<Vec<Statistics>> {
+        let mut events = Events::with_capacity(EVENTS);
+        while !self.is_over() {
+            self.turn(&mut events)?;
+        }
+        self.finish();
+        Ok(self.statistics())
+    }
+
+    fn turn(&mut self, events: &mut Events) -> io::Result<()> {
+        match self.poll.poll(events, Some(self.time_left())) {
+            Err(error) if error.kind() != io::ErrorKind::Interrupted => return Err(error),
+            _ => {}
+        }
+        self.now = Instant::now();
+        self.relay.clock().refresh();
+        events.iter().for_each(|event| self.note(event));
+        self.obey();
+        self.expire();
+        self.accept();
+        self.read();
+        self.serve();
+        self.write_filled();
+        Ok(())
+    }
+
+    /// How long to wait for something to happen: not at all while there is something to do.
+    fn time_left(&self) -> Duration {
+        let is_busy = !self.ready.is_empty() || self.partners.iter().any(|partner| partner.turns.next().is_some());
+        match is_busy {
+            true => Duration::ZERO,
+            false => self.earliest.saturating_duration_since(Instant::now()),
+        }
+    }
+
+    fn note(&mut self, event: &Event) {
+        match event.token() {
+            WAKER => {}
+            Token(number) if number < FIRST_LISTENER => self.note_connection(number, event),
+            Token(listener) => {
+                let flags = self.partners.iter_mut().flat_map(|partner| &mut partner.port.ready);
+                flags.skip(listener - FIRST_LISTENER).take(1).for_each(|ready| *ready = true);
+            }
+        }
+    }
+
+    pub fn statistics(&self) -> Vec<Statistics> {
+        self.partners.iter().map(|partner| partner.statistics).collect()
+    }
+
+    fn partner_of(&mut self, connection: usize) -> &mut Partner {
+        &mut self.partners[connection / CONNECTIONS_EACH]
+    }
+
+    /// Wakes the loop by then.
+    fn wake_by(&mut self, deadline: Instant) {
+        self.earliest = self.earliest.min(deadline);
+    }
+
+    fn log_connection(&self, number: usize, kind: &'static str, text: impl std::fmt::Display) {
+        let peer = self.connections[number].as_ref().map(|connection| connection.address);
+        self.log.record(log::Event { kind, place: Place::Connection(number) }, peer, text);
+    }
+}

@@ -1,0 +1,103 @@
+//! What comes from a peer.
+
+use mio::event::Event;
+
+use super::EventLoop;
+use crate::connection::{End, Phase};
+use crate::input::Found;
+
+/// Type of SessionEnd, the one message that costs nothing: it is offered at once, whoever waits.
+const SESSION_END: u8 = 9;
+
+impl EventLoop {
+    pub(super) fn note_connection(&mut self, number: usize, event: &Event) {
+        let Some(connection) = &mut self.connections[number] else { return };
+        // A peer that has reset takes and sends nothing any more, so what it has sent needn't be served to its end.
+        if event.is_error() || event.is_read_closed() && event.is_write_closed() {
+            let error = connection.stream.take_error().ok().flatten();
+            return self.end(number, End::Failed(error.unwrap_or(std::io::ErrorKind::ConnectionReset.into())));
+        }
+        connection.readable |= event.is_readable() || event.is_read_closed();
+        connection.read_closed |= event.is_read_closed();
+        if connection.readable && connection.is_taken_from() {
+            self.ready.push(number);
+        }
+        if event.is_writable() {
+            self.write(number);
+        }
+    }
+
+    /// Reads once from each connection that can be read.
+    pub(super) fn read(&mut self) {
+        let mut ready = std::mem::take(&mut self.ready);
+        for number in ready.drain(..) {
+            self.read_connection(number);
+        }
+        ready.append(&mut self.ready);
+        self.ready = ready;
+    }
+
+    fn read_connection(&mut self, number: usize) {
+        let Some(connection) = &mut self.connections[number] else { return };
+        let has_message = !matches!(connection.input.message(), Ok(None));
+        if !connection.readable || has_message || !connection.is_taken_from() {
+            return;
+        }
+        match connection.input.read_from(&mut connection.stream, &mut self.spare_inputs) {
+            Ok(Found::Part) => {}
+            // The end of the stream is told once: it must be read to it.
+            Ok(Found::All) => connection.readable = connection.read_closed,
+            Ok(Found::Nothing) => connection.readable = false,
+            Ok(Found::End) => (connection.readable, connection.ended) = (false, true),
+            Err(error) => return self.end(number, End::Failed(error)),
+        }
+        self.go_on(number);
+    }
+
+    /// Goes on with a connection: a whole message waits for its turn, the rest of a frame is read.
+    pub(super) fn go_on(&mut self, number: usize) {
+        while self.has_session_end(number) {
+            self.offer(number);
+        }
+        let Some(connection) = &mut self.connections[number] else { return };
+        if !connection.is_taken_from() {
+            return;
+        }
+        match connection.input.message() {
+            Ok(Some(_)) => {
+                if connection.phase == Phase::Open {
+                    connection.due = None;
+                }
+                self.partner_of(number).turns.join(number);
+            }
+            Ok(None) if connection.ended => {
+                let end = if connection.input.is_empty() { End::Left } else { End::Unreadable(frames::Error::Cut) };
+                self.end(number, end);
+            }
+            Ok(None) => self.expect_bytes(number),
+            Err(error) => self.end(number, End::Unreadable(error)),
+        }
+    }
+
+    fn has_session_end(&self, number: usize) -> bool {
+        let Some(connection) = &self.connections[number] else { return false };
+        let first = connection.input.message().ok().flatten().and_then(|message| message.first());
+        connection.is_taken_from() && first == Some(&SESSION_END)
+    }
+
+    /// There is no whole message: it has nothing to offer until more has come.
+    fn expect_bytes(&mut self, number: usize) {
+        self.partner_of(number).turns.leave(number);
+        let deadline = self.now + self.limits.frame;
+        let Some(connection) = &mut self.connections[number] else { return };
+        connection.input.release(&mut self.spare_inputs);
+        if connection.readable {
+            self.ready.push(number);
+        }
+        if connection.phase == Phase::Open {
+            let begun = !connection.input.is_empty();
+            connection.due = connection.due.or(Some(deadline)).filter(|_| begun);
+            self.earliest = self.earliest.min(connection.due.unwrap_or(self.earliest));
+        }
+    }
+}

@@ -1,0 +1,189 @@
+//! Messages offered to the engine, each partner's in its turns.
+
+use std::time::Duration;
+
+use engine::relay::{Answer, BUFFER, RANDOM};
+
+use super::EventLoop;
+use crate::connection::{End, Hold, Phase};
+use crate::refusal::{Consequence, Refusal};
+use crate::CONNECTIONS_EACH;
+
+/// What the partners' messages may cost together in a turn: so many that a turn's own cost hardly counts, and so few that
+/// a neighbour's message doesn't wait long for the next.
+const TURN: usize = 131_072;
+/// What a message costs beside its length.
+const FIXED_COST: usize = 32;
+/// The messages that random bytes matter to: a lease request, and a request to establish a session.
+const NEEDS_RANDOM: [u8; 2] = [2, 6];
+/// Lent to the others.
+const NOT_RANDOM: [u8; RANDOM] = [0; RANDOM];
+/// Type of a message whose data goes to the peer in session.
+const DATA: u8 = 11;
+/// A dropped message costs its sender no allowance. So the next one is taken after a pause of a millisecond for each KiB
+/// begun of it: a flood of them mustn't keep the relay busy.
+const PAUSE: Duration = Duration::from_millis(1);
+const PAUSE_BYTES: usize = 1_024;
+
+impl EventLoop {
+    /// Serves each partner up to its share of a turn.
+    pub(super) fn serve(&mut self) {
+        let count = self.partners.len();
+        let busy = self.partners.iter().filter(|partner| partner.turns.next().is_some()).count();
+        if busy == 0 {
+            return;
+        }
+        for place in 0..count {
+            self.serve_partner((self.first_partner + place) % count, TURN / busy);
+            self.write_filled();
+        }
+        self.first_partner = (self.first_partner + 1) % count;
+    }
+
+    fn serve_partner(&mut self, partner: usize, share: usize) {
+        let mut spent = 0;
+        while spent < share {
+            let Some(number) = self.partners[partner].turns.next() else { return };
+            spent += self.serve_connection(number);
+        }
+    }
+
+    /// Offers what a connection has next, if it can afford it by now. Gives what that cost.
+    fn serve_connection(&mut self, number: usize) -> usize {
+        let turns = &mut self.partners[number / CONNECTIONS_EACH].turns;
+        let Some(connection) = &self.connections[number] else {
+            turns.leave(number);
+            return 0;
+        };
+        let is_opening = connection.phase == Phase::Opening;
+        let length = connection.input.message().ok().flatten().map_or(0, <[u8]>::len);
+        let cost = FIXED_COST + length;
+        if !turns.affords(cost) {
+            return 0;
+        }
+        if is_opening {
+            self.open(number);
+        } else {
+            self.offer(number);
+        }
+        let turns = &mut self.partners[number / CONNECTIONS_EACH].turns;
+        if !turns.waiting {
+            turns.spend(number, cost);
+            self.go_on(number);
+        }
+        cost
+    }
+
+    fn open(&mut self, number: usize) {
+        let mut reply = [0; BUFFER];
+        match self.relay.open(number, &mut reply) {
+            Ok(answer) => {
+                let due = self.now + self.limits.version;
+                let Some(connection) = &mut self.connections[number] else { return };
+                (connection.phase, connection.due, connection.waits) = (Phase::Greeted, Some(due), false);
+                self.wake_by(due);
+                self.partner_of(number).turns.leave(number);
+                self.count_done(number, 0);
+                self.deliver_reply(number, answer, &reply);
+            }
+            Err(refusal) => self.refused(number, 0, refusal),
+        }
+    }
+
+    /// Offers the first message of a connection to the engine and acts on the answer.
+    pub(super) fn offer(&mut self, number: usize) {
+        let Some(connection) = &self.connections[number] else { return };
+        let Ok(Some(message)) = connection.input.message() else { return };
+        let (length, kind) = (message.len(), message.first().copied());
+        let random = match kind.filter(|kind| NEEDS_RANDOM.contains(kind)) {
+            Some(_) => match self.random.take() {
+                Ok(random) => random,
+                Err(error) => return self.end(number, End::Failed(error)),
+            },
+            None => &NOT_RANDOM,
+        };
+        let mut reply = [0; BUFFER];
+        // Data is written where it is to go.
+        let output = connection.paired.filter(|_| kind == Some(DATA));
+        let room = length.max(BUFFER);
+        let relay = match output {
+            Some(paired) => self.outputs[paired].room(room, &mut self.spare_outputs),
+            None => &mut self.scratch[..room],
+        };
+        match self.relay.message(number, message, random, &mut reply, relay) {
+            Ok(answer) => {
+                self.count_done(number, length);
+                self.taken(number, length);
+                self.deliver_reply(number, answer, &reply);
+                self.deliver_relay(number, answer, output);
+                self.follow(number, kind, answer);
+            }
+            Err(refusal) => self.refused(number, length, refusal),
+        }
+    }
+
+    fn count_done(&mut self, number: usize, length: usize) {
+        let statistics = &mut self.partner_of(number).statistics;
+        statistics.done += 1;
+        statistics.bytes += length as u64;
+    }
+
+    /// The first message of a connection has been taken.
+    fn taken(&mut self, number: usize, length: usize) {
+        if let Some(connection) = &mut self.connections[number] {
+            connection.input.take(length);
+            connection.waits = false;
+        }
+    }
+
+    /// What else follows from an accepted message.
+    fn follow(&mut self, number: usize, kind: Option<u8>, answer: Answer) {
+        self.follow_session(number, kind, answer);
+        let Some(connection) = &mut self.connections[number] else { return };
+        if connection.phase == Phase::Greeted {
+            (connection.phase, connection.due) = (Phase::Open, None);
+        }
+        if answer.disconnect != 0 {
+            self.end(number, End::OtherVersion);
+        } else if let Some(full) = self.full_output(number, answer) {
+            self.hold(number, Hold::Output(full));
+        }
+    }
+
+    fn refused(&mut self, number: usize, length: usize, refusal: Refusal) {
+        match refusal.consequence() {
+            Consequence::Wait => self.wait_for_allowance(number, refusal),
+            Consequence::Drop => {
+                self.partner_of(number).statistics.dropped += 1;
+                self.log_connection(number, "dropped", refusal);
+                self.taken(number, length);
+                let pause = PAUSE * (1 + length / PAUSE_BYTES) as u32;
+                self.hold(number, Hold::Pause(self.now + pause));
+            }
+            Consequence::Close => self.end(number, End::Refused(refusal)),
+        }
+    }
+
+    /// A level changes only with the second. Until then the connection keeps its partner's turn.
+    fn wait_for_allowance(&mut self, number: usize, refusal: Refusal) {
+        let retry = self.now + self.relay.clock().until_next();
+        let retry = *self.retry.get_or_insert(retry);
+        self.wake_by(retry);
+        self.partner_of(number).turns.waiting = true;
+        let Some(connection) = &mut self.connections[number] else { return };
+        if !std::mem::replace(&mut connection.waits, true) {
+            self.partner_of(number).statistics.waited += 1;
+            self.log_connection(number, "waits", refusal);
+        }
+    }
+
+    /// Takes nothing from a connection for a while.
+    fn hold(&mut self, number: usize, hold: Hold) {
+        self.partner_of(number).turns.leave(number);
+        let Some(connection) = &mut self.connections[number] else { return };
+        connection.hold = Some(hold);
+        if let Hold::Pause(until) = hold {
+            self.wake_by(until);
+        }
+    }
+}

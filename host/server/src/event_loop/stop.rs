@@ -1,0 +1,49 @@
+//! The end of the relay.
+
+use super::EventLoop;
+use crate::connection::End;
+use crate::log::{Event, Place};
+use crate::server::Command;
+use crate::statistics::Statistics;
+
+impl EventLoop {
+    /// Does what it is told from outside.
+    pub(super) fn obey(&mut self) {
+        while let Ok(command) = self.commands.try_recv() {
+            match command {
+                // Who asked may have gone.
+                Command::Statistics(to) => drop(to.send(self.statistics())),
+                Command::Stop => self.stop(),
+            }
+        }
+    }
+
+    /// Takes nothing more and ends every connection. What is still to be written has a moment.
+    fn stop(&mut self) {
+        let deadline = self.now + self.limits.last_words;
+        self.stops = Some(deadline);
+        self.wake_by(deadline);
+        for partner in &mut self.partners {
+            partner.port.shut();
+        }
+        (0..self.connections.len()).for_each(|number| self.end(number, End::Stopped));
+    }
+
+    pub(super) fn is_over(&self) -> bool {
+        let Some(deadline) = self.stops else { return false };
+        self.now >= deadline || self.connections.iter().all(Option::is_none)
+    }
+
+    /// Saves the state, and writes to the log what each partner got.
+    pub(super) fn finish(&mut self) {
+        self.connections.iter_mut().for_each(|connection| drop(connection.take()));
+        if let Some(saver) = self.saver.take() {
+            saver.finish(self.relay.tables());
+        }
+        for (partner, got) in self.statistics().iter().enumerate() {
+            if *got != Statistics::default() {
+                self.log.record(Event { kind: "summary", place: Place::Partner(partner) }, None, got);
+            }
+        }
+    }
+}

@@ -1,0 +1,95 @@
+//! What has come from a peer and hasn't been taken yet.
+
+use std::io::{self, Read};
+
+use frames::{Error, HEADER, MESSAGE_LIMIT};
+
+use crate::spare::Spare;
+
+/// Bytes that are read at a time: a frame of the largest size, in whole pages.
+pub const CAPACITY: usize = (HEADER + MESSAGE_LIMIT).next_multiple_of(4096);
+
+/// What a read found.
+#[derive(Debug, PartialEq, Eq)]
+pub enum Found {
+    /// All that has come is read.
+    All,
+    /// The buffer is full: there may be more.
+    Part,
+    /// Nothing has come.
+    Nothing,
+    /// Nothing will come any more.
+    End,
+}
+
+/// Bytes of a connection, frames in their order.
+#[derive(Default)]
+pub struct Input {
+    /// Empty while there are no bytes.
+    buffer: Box<[u8]>,
+    start: usize,
+    end: usize,
+}
+
+impl Input {
+    /// Reads once. There must be room, as there is while no whole frame waits.
+    pub fn read_from(&mut self, stream: &mut impl Read, spare: &mut Spare) -> io::Result<Found> {
+        self.make_room(spare);
+        let room = &mut self.buffer[self.end..];
+        let length = room.len();
+        let found = match stream.read(room) {
+            Ok(0) => Ok(Found::End),
+            Ok(count) => {
+                self.end += count;
+                Ok(if count == length { Found::Part } else { Found::All })
+            }
+            Err(error) if error.kind() == io::ErrorKind::WouldBlock => Ok(Found::Nothing),
+            Err(error) if error.kind() == io::ErrorKind::Interrupted => Ok(Found::Part),
+            Err(error) => Err(error),
+        };
+        self.release(spare);
+        found
+    }
+
+    /// The first message, once its frame is whole.
+    pub fn message(&self) -> Result<Option<&[u8]>, Error> {
+        let bytes = &self.buffer[self.start..self.end];
+        let length = frames::message_length(bytes)?;
+        Ok(length.and_then(|length| bytes.get(HEADER..HEADER + length)))
+    }
+
+    /// Passes over the first frame, whose message has this length.
+    pub fn take(&mut self, length: usize) {
+        self.start += HEADER + length;
+    }
+
+    /// Whether no byte waits, not even of half a frame.
+    pub fn is_empty(&self) -> bool {
+        self.start == self.end
+    }
+
+    /// Gives the buffer back if no byte waits.
+    pub fn release(&mut self, spare: &mut Spare) {
+        if self.is_empty() && !self.buffer.is_empty() {
+            spare.give(std::mem::take(self).buffer);
+        }
+    }
+
+    /// Gives the buffer back with all that waits in it.
+    pub fn discard(&mut self, spare: &mut Spare) {
+        self.start = self.end;
+        self.release(spare);
+    }
+
+    /// What is left of the last read moves to the front, so that there is room for a whole frame.
+    fn make_room(&mut self, spare: &mut Spare) {
+        if self.buffer.is_empty() {
+            self.buffer = spare.take();
+        }
+        if self.start > 0 {
+            self.buffer.copy_within(self.start..self.end, 0);
+            self.end -= self.start;
+            self.start = 0;
+        }
+    }
+}

@@ -1,0 +1,31 @@
+//! How long the relay waits for its peers.
+
+use std::time::Duration;
+
+#[derive(Clone, Copy, Debug, PartialEq, Eq)]
+pub struct Limits {
+    /// In so long a peer has to take `least_progress` bytes of what waits for it, or all of it.
+    pub patience: Duration,
+    pub least_progress: usize,
+    /// For the answer to the relay's version.
+    pub version: Duration,
+    /// For the rest of a frame that has begun.
+    pub frame: Duration,
+    /// For a number, by a connection that comes while all of its partner's are in use.
+    pub number: Duration,
+    /// For what is still to be written when the relay ends.
+    pub last_words: Duration,
+}
+
+impl Default for Limits {
+    fn default() -> Self {
+        Self {
+            patience: Duration::from_secs(30),
+            least_progress: 16_384,
+            version: Duration::from_secs(10),
+            frame: Duration::from_secs(30),
+            number: Duration::from_millis(100),
+            last_words: Duration::from_secs(2),
+        }
+    }
+}

@@ -1,0 +1,119 @@
+//! What waits to be written to a peer.
+//!
+//! A message that the engine has accepted is always taken, so that the order of the engine's calls is the order on the
+//! wire and nothing is lost. The bound is kept by the connections that fill an output: from one whose last message left
+//! an output at the bound no further message is taken until the output is below it, and TCP slows its peer. So an output
+//! holds at most the bound and one message of each connection of the partner.
+
+use std::io::{self, Write};
+
+use frames::{HEADER, MESSAGE_LIMIT};
+
+use crate::spare::Spare;
+
+/// Bytes, from which on those who fill the output wait.
+pub const BOUND: usize = 65_536;
+/// Room for the bound and a frame of the largest size. More is needed only if several fill an output at once.
+pub const CAPACITY: usize = BOUND + FRONT + HEADER + MESSAGE_LIMIT;
+/// Where the first frame of an empty output begins: its message's data, after the header and a type byte, is then at a
+/// multiple of 16, which suits the engine's copy of long data.
+const FRONT: usize = 16 - HEADER - 1;
+#[derive(Default)]
+pub struct Output {
+    /// Empty while nothing waits.
+    buffer: Box<[u8]>,
+    start: usize,
+    end: usize,
+}
+
+impl Output {
+    /// Bytes that wait.
+    pub fn len(&self) -> usize {
+        self.end - self.start
+    }
+
+    pub fn is_empty(&self) -> bool {
+        self.len() == 0
+    }
+
+    pub fn is_full(&self) -> bool {
+        self.len() >= BOUND
+    }
+
+    /// Adds the message's frame.
+    pub fn append(&mut self, message: &[u8], spare: &mut Spare) {
+        self.room(message.len(), spare).copy_from_slice(message);
+        self.commit(message.len());
+    }
+
+    /// Room for a message of this length. What is written there counts when it is committed.
+    pub fn room(&mut self, length: usize, spare: &mut Spare) -> &mut [u8] {
+        self.make_room(HEADER + length, spare);
+        &mut self.buffer[self.end + HEADER..][..length]
+    }
+
+    /// Makes a frame of what was written to the room's first bytes.
+    pub fn commit(&mut self, length: usize) {
+        // The engine sends no message too long for a frame.
+        if let Some(header) = frames::header(length) {
+            self.buffer[self.end..][..HEADER].copy_from_slice(&header);
+            self.end += HEADER + length;
+        }
+    }
+
+    /// Writes as much as the stream takes. Gives how much that was.
+    pub fn write_to(&mut self, stream: &mut impl Write, spare: &mut Spare) -> io::Result<usize> {
+        let before = self.len();
+        while !self.is_empty() {
+            match stream.write(&self.buffer[self.start..self.end]) {
+                Ok(0) => return Err(io::ErrorKind::WriteZero.into()),
+                Ok(count) => self.start += count,
+                Err(error) if error.kind() == io::ErrorKind::WouldBlock => break,
+                Err(error) if error.kind() == io::ErrorKind::Interrupted => {}
+                Err(error) => return Err(error),
+            }
+        }
+        let written = before - self.len();
+        self.release(spare);
+        Ok(written)
+    }
+
+    /// Forgets what waits.
+    pub fn clear(&mut self, spare: &mut Spare) {
+        self.start = self.end;
+        self.release(spare);
+    }
+
+    /// Gives the buffer back if nothing waits.
+    fn release(&mut self, spare: &mut Spare) {
+        if self.is_empty() && !self.buffer.is_empty() {
+            spare.give(std::mem::take(self).buffer);
+        }
+    }
+
+    fn make_room(&mut self, length: usize, spare: &mut Spare) {
+        if self.is_empty() {
+            if self.buffer.is_empty() {
+                self.buffer = spare.take();
+            }
+            (self.start, self.end) = (FRONT, FRONT);
+        }
+        if self.buffer.len() - self.end < length {
+            self.move_to_front(length);
+        }
+    }
+
+    /// Moves what waits to the front, of a larger buffer where this one can't hold so many bytes more.
+    fn move_to_front(&mut self, length: usize) {
+        let waiting = self.start..self.end;
+        self.end = FRONT + self.len();
+        self.start = FRONT;
+        if self.end + length <= self.buffer.len() {
+            self.buffer.copy_within(waiting, FRONT);
+        } else {
+            let mut larger = vec![0; (self.end + length).next_multiple_of(CAPACITY)];
+            larger[self.start..self.end].copy_from_slice(&self.buffer[waiting]);
+            self.buffer = larger.into();
+        }
+    }
+}

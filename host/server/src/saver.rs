@@ -1,0 +1,59 @@
+//! Saves the tables on a thread of its own: a slow disk mustn't hold up the relay.
+
+use std::sync::mpsc::{self, Receiver, Sender};
+use std::sync::Arc;
+use std::thread::{self, JoinHandle};
+use std::{io, mem};
+
+use crate::log::{Event, Log, Place};
+use crate::relay::Tables;
+use crate::state_file::StateFile;
+
+pub struct Saver {
+    tables: Sender<Tables>,
+    thread: JoinHandle<()>,
+    /// What was handed over last.
+    last: Tables,
+}
+
+impl Saver {
+    /// Saves the tables as they are now, and starts the thread for later.
+    pub fn start(file: StateFile, tables: &Tables, log: Arc<Log>) -> io::Result<Self> {
+        file.save(tables).map_err(|error| {
+            io::Error::other(format!("the state file '{}' can't be written: {error}", file.path().display()))
+        })?;
+        let (sender, receiver) = mpsc::channel();
+        let thread = thread::Builder::new().name("state".into()).spawn(move || run(&file, &receiver, &log))?;
+        Ok(Self { tables: sender, thread, last: tables.clone() })
+    }
+
+    /// Hands the tables over, if they have changed.
+    pub fn save(&mut self, tables: &Tables) {
+        if self.last != *tables {
+            self.last = tables.clone();
+            // It fails only if the thread has ended, which the end of the relay then finds.
+            let _ = self.tables.send(tables.clone());
+        }
+    }
+
+    /// Saves them for the last time.
+    pub fn finish(mut self, tables: &Tables) {
+        self.save(tables);
+        drop(self.tables);
+        let _ = self.thread.join();
+    }
+}
+
+/// Saves what is handed over: the latest, if the disk is slower than the relay. What couldn't be saved is tried again
+/// with the next.
+fn run(file: &StateFile, tables: &Receiver<Tables>, log: &Log) {
+    while let Ok(mut latest) = tables.recv() {
+        while let Ok(later) = tables.try_recv() {
+            drop(mem::replace(&mut latest, later));
+        }
+        if let Err(error) = file.save(&latest) {
+            let event = Event { kind: "not saved", place: Place::Relay };
+            log.record(event, None, format_args!("the state isn't saved in '{}': {error}", file.path().display()));
+        }
+    }
+}

@@ -1,0 +1,84 @@
+//! The tables in a file, from one run of the relay to the next.
+
+use std::ffi::OsString;
+use std::fs::{self, File, OpenOptions};
+use std::io::{self, Write};
+use std::os::unix::fs::OpenOptionsExt;
+use std::path::{Path, PathBuf};
+
+use crate::relay::Tables;
+
+/// Readings are below it.
+const CLOCK_LIMIT: u64 = 1 << 40;
+/// The tables hold keys and cookies, which are nobody else's business.
+const MODE: u32 = 0o600;
+
+/// A file that holds whole tables at every moment: they are written to a new file, which then takes its name.
+pub struct StateFile {
+    path: PathBuf,
+    /// Held as long as the relay runs, so that no other uses the file.
+    _lock: File,
+}
+
+impl StateFile {
+    /// Takes the file for this relay, and gives the tables that it holds, if it exists.
+    pub fn open(path: &Path) -> io::Result<(Self, Option<Tables>)> {
+        // A link stays one.
+        let path = path.canonicalize().unwrap_or_else(|_| path.to_owned());
+        let named = |error| io::Error::other(format!("the state file '{}': {error}", path.display()));
+        let lock = lock(&beside(&path, ".lock")).map_err(named)?;
+        let tables = read(&path).map_err(named)?;
+        Ok((Self { path, _lock: lock }, tables))
+    }
+
+    pub fn save(&self, tables: &Tables) -> io::Result<()> {
+        let new = beside(&self.path, ".new");
+        // A killed relay may have left one.
+        let _ = fs::remove_file(&new);
+        let mut file = OpenOptions::new().write(true).create_new(true).mode(MODE).open(&new)?;
+        file.write_all(tables.as_bytes())?;
+        file.sync_all()?;
+        fs::rename(&new, &self.path)?;
+        File::open(folder(&self.path))?.sync_all()
+    }
+
+    pub fn path(&self) -> &Path {
+        &self.path
+    }
+}
+
+/// The file's tables; None if it doesn't exist.
+fn read(path: &Path) -> io::Result<Option<Tables>> {
+    let bytes = match fs::read(path) {
+        Ok(bytes) => bytes,
+        Err(error) if error.kind() == io::ErrorKind::NotFound => return Ok(None),
+        Err(error) => return Err(error),
+    };
+    let length = bytes.len();
+    let Some(tables) = Tables::from_bytes(&bytes) else {
+        return Err(io::Error::other(format!("it has {length} bytes and not {}, so it is none", Tables::SIZE)));
+    };
+    if tables.clock() >= CLOCK_LIMIT {
+        return Err(io::Error::other(format!("its clock is at {}, out of range", tables.clock())));
+    }
+    Ok(Some(tables))
+}
+
+fn lock(path: &Path) -> io::Result<File> {
+    let file = OpenOptions::new().write(true).create(true).truncate(false).mode(MODE).open(path)?;
+    match file.try_lock() {
+        Ok(()) => Ok(file),
+        Err(fs::TryLockError::WouldBlock) => Err(io::Error::other("another relay uses it")),
+        Err(fs::TryLockError::Error(error)) => Err(error),
+    }
+}
+
+fn beside(path: &Path, ending: &str) -> PathBuf {
+    let mut name = OsString::from(path);
+    name.push(ending);
+    name.into()
+}
+
+fn folder(path: &Path) -> &Path {
+    path.parent().filter(|folder| !folder.as_os_str().is_empty()).unwrap_or(Path::new("."))
+}
