@@ -43,7 +43,8 @@ fn main() -> ExitCode {
         Some("serve") => with_arguments(serve::HELP, &serve::OPTIONS, rest, serve::run),
         Some("peer") => with_arguments(peer::HELP, &peer::OPTIONS, rest, peer::run),
         Some("demo") => with_arguments(demo::HELP, &[], rest, demo::run),
-        Some("bench") => with_arguments(bench::HELP, &[], rest, bench::run),
+        Some("bench") => with_arguments(bench::HELP, &bench::OPTIONS, rest, bench::run),
+        Some(bench::peers::WORD) => bench::peers::run_process(&rest),
         Some("--help" | "-h" | "help") => {
             say(HELP.trim_end());
             Ok(())

@@ -5,9 +5,10 @@ mod cases;
 mod copy;
 mod loopback;
 mod measure;
+pub mod peers;
 mod relays;
 
-use crate::arguments::Arguments;
+use crate::arguments::{Arguments, Known};
 use crate::{say, Failure, Outcome};
 use measure::{Comparison, Medians};
 
@@ -67,11 +68,27 @@ impl Section {
 /// The sections, in the table's order.
 const SECTIONS: [fn() -> Result<Section, Failure>; 3] = [calls::section, copy::section, loopback::section];
 
+pub const OPTIONS: [Known; 2] =
+    [Known { name: "--peers", has_value: false }, Known { name: "--brief", has_value: false }];
+
 pub fn run(arguments: Arguments) -> Outcome {
     arguments.others([])?;
+    measure(arguments.has("--peers"), arguments.has("--brief"))
+}
+
+/// Measures the engine, or the relay beside others; the latter briefly if only to show that all is in order.
+fn measure(peers: bool, brief: bool) -> Outcome {
     if cfg!(debug_assertions) {
         say("This is a debug build: its numbers mean nothing.\n");
     }
+    if peers {
+        peers::run(brief)
+    } else {
+        measure_engine()
+    }
+}
+
+fn measure_engine() -> Outcome {
     say("| what | engine ns | other ns | engine / other |\n|---|---:|---:|---:|");
     let sections = SECTIONS.into_iter().map(measured).collect::<Result<Vec<_>, _>>()?;
     let aims = sections.iter().filter_map(Section::judged).collect::<Vec<_>>();

@@ -1,0 +1,156 @@
+//! A relay that runs, and connections through it.
+
+use std::fs::{self, File};
+use std::io;
+use std::net::{Ipv4Addr, SocketAddr, TcpListener, TcpStream};
+use std::path::Path;
+use std::thread;
+use std::time::{Duration, Instant};
+
+use codec::Message;
+use peer::Peer;
+use server::CONNECTIONS_EACH;
+use tempfile::TempDir;
+
+use super::link::{prepare, Link, WAIT};
+use super::process::{self, Process};
+use super::programs::Program;
+use super::proxies::{Ports, Proxy};
+
+const POLL: Duration = Duration::from_millis(1);
+/// A proxy's workers start when it listens already.
+const SETTLE: Duration = Duration::from_millis(100);
+
+pub struct Relay {
+    pub process: Process,
+    route: Route,
+}
+
+enum Route {
+    /// Our relay's addresses, one for each partner.
+    Partners(Vec<SocketAddr>),
+    /// A proxy's address, and where it hands connections on to. The folder has its files.
+    Proxied { address: SocketAddr, listener: TcpListener, _folder: TempDir },
+}
+
+/// A relay, or why there is none.
+pub type Started = io::Result<Relay>;
+
+/// Likewise, borrowed.
+pub fn started(relay: &Started) -> io::Result<&Relay> {
+    relay.as_ref().map_err(|error| io::Error::new(error.kind(), error.to_string()))
+}
+
+/// A connection to a relay, and where a proxy hands it on to.
+pub struct Connection {
+    pub near: TcpStream,
+    pub far: Option<TcpStream>,
+}
+
+impl Relay {
+    pub fn start(program: &Program) -> io::Result<Self> {
+        let relay = match program {
+            Program::Crondelith(clock) => Self::start_ours(clock),
+            Program::Proxy(proxy, path) => Self::start_proxy(proxy, path),
+        };
+        thread::sleep(SETTLE);
+        relay
+    }
+
+    fn start_ours(clock: &str) -> io::Result<Self> {
+        let (process, output) = Process::serve(clock)?;
+        Ok(Self { process, route: Route::Partners(process::addresses(output)?) })
+    }
+
+    fn start_proxy(proxy: &Proxy, path: &Path) -> io::Result<Self> {
+        let folder = TempDir::new()?;
+        let log = folder.path().join("log");
+        let listener = listen()?;
+        let ports = Ports { from: free_port()?, to: listener.local_addr()?.port() };
+        let arguments = (proxy.arguments)(&ports, folder.path())?;
+        let process = Process::guard(path.as_os_str(), &arguments, File::create(&log)?)?;
+        let listens = poll(|| super::usage::listens(ports.from).then_some(()));
+        listens.ok_or_else(|| io::Error::other(format!("not started: {}", last_line(&log))))?;
+        let address = (Ipv4Addr::LOCALHOST, ports.from).into();
+        Ok(Self { process, route: Route::Proxied { address, listener, _folder: folder } })
+    }
+
+    /// A session between two connections of a partner, who has four of these; through a proxy, a connection.
+    pub fn link(&self, number: usize) -> io::Result<Link> {
+        match &self.route {
+            Route::Partners(addresses) => {
+                let (caller, holder) = session(addresses[number / (CONNECTIONS_EACH / 2)]).map_err(io::Error::other)?;
+                let (near, far) = (caller.stream().try_clone()?, holder.stream().try_clone()?);
+                Link::new(near, far, |data| Message::DataReceive { data })
+            }
+            Route::Proxied { address, listener, .. } => {
+                let (near, far) = proxied(*address, listener)?;
+                Link::new(near, far, |data| Message::DataSend { data })
+            }
+        }
+    }
+
+    /// A connection of a partner, who has eight of these, its version answered.
+    pub fn connect(&self, number: usize) -> io::Result<Connection> {
+        let (near, far) = match &self.route {
+            Route::Partners(addresses) => {
+                let peer = Peer::connect(addresses[number / CONNECTIONS_EACH]).map_err(io::Error::other)?;
+                (peer.stream().try_clone()?, None)
+            }
+            Route::Proxied { address, listener, .. } => {
+                let (near, far) = proxied(*address, listener)?;
+                (near, Some(far))
+            }
+        };
+        prepare(&near)?;
+        far.iter().try_for_each(prepare)?;
+        Ok(Connection { near, far })
+    }
+}
+
+/// Two connections of a partner, in session.
+fn session(address: SocketAddr) -> Result<(Peer, Peer), peer::Error> {
+    let (mut caller, mut holder) = (Peer::connect(address)?, Peer::connect(address)?);
+    let id = holder.lease()?;
+    caller.establish(id)?;
+    let deadline = Instant::now() + WAIT;
+    while let Some(message) = holder.receive_by(deadline)? {
+        if matches!(message, Message::EstablishNotification { .. }) {
+            return Ok((caller, holder));
+        }
+    }
+    Err(peer::Error::NoAnswer)
+}
+
+/// Both ends of a connection that a proxy hands on.
+fn proxied(address: SocketAddr, listener: &TcpListener) -> io::Result<(TcpStream, TcpStream)> {
+    let near = TcpStream::connect_timeout(&address, WAIT)?;
+    let (far, _) = poll(|| listener.accept().ok()).ok_or(io::ErrorKind::TimedOut)?;
+    Ok((near, far))
+}
+
+/// Connections that come are asked for, since accepting has no time limit.
+fn listen() -> io::Result<TcpListener> {
+    let listener = TcpListener::bind((Ipv4Addr::LOCALHOST, 0))?;
+    listener.set_nonblocking(true)?;
+    Ok(listener)
+}
+
+fn free_port() -> io::Result<u16> {
+    Ok(listen()?.local_addr()?.port())
+}
+
+fn poll<T>(mut attempt: impl FnMut() -> Option<T>) -> Option<T> {
+    let end = Instant::now() + WAIT;
+    loop {
+        match attempt() {
+            None if Instant::now() < end => thread::sleep(POLL),
+            outcome => return outcome,
+        }
+    }
+}
+
+fn last_line(log: &Path) -> String {
+    let text = fs::read_to_string(log).unwrap_or_default();
+    text.lines().last().unwrap_or("nothing listens").to_owned()
+}

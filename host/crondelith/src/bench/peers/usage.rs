@@ -1,0 +1,51 @@
+//! What processes use, from /proc.
+
+use std::{fs, io};
+
+/// Of a second: the unit of times there.
+const TICKS: f64 = 100.0;
+
+/// Places in `stat`, counted from the field after the program's name.
+const GROUP: usize = 2;
+/// The user's and the system's time, and those of children that have ended.
+const TIMES: std::ops::Range<usize> = 11..15;
+
+/// The processes of a group.
+pub fn group(leader: u32) -> io::Result<Vec<u32>> {
+    let number = |entry: io::Result<fs::DirEntry>| entry.ok()?.file_name().to_str()?.parse().ok();
+    let is_member = |id: &u32| stat(*id).is_ok_and(|fields| fields.get(GROUP) == Some(&f64::from(leader)));
+    Ok(fs::read_dir("/proc")?.filter_map(number).filter(is_member).collect())
+}
+
+/// Of all its threads.
+pub fn cpu_seconds(process: u32) -> io::Result<f64> {
+    let fields = stat(process)?;
+    let times = fields.get(TIMES).ok_or(io::ErrorKind::InvalidData)?;
+    Ok(times.iter().sum::<f64>() / TICKS)
+}
+
+/// Pages that processes share count for each of them.
+pub fn resident_kib(process: u32) -> io::Result<f64> {
+    let text = fs::read_to_string(format!("/proc/{process}/smaps_rollup"))?;
+    let line = text.lines().find_map(|line| line.strip_prefix("Rss:"));
+    let number = line.and_then(|line| line.split_whitespace().next()?.parse().ok());
+    number.ok_or(io::ErrorKind::InvalidData.into())
+}
+
+/// The fields after the name, which is in brackets and may hold anything. The first is a letter, here 0.
+fn stat(process: u32) -> io::Result<Vec<f64>> {
+    let text = fs::read_to_string(format!("/proc/{process}/stat"))?;
+    let (_, fields) = text.rsplit_once(')').ok_or(io::ErrorKind::InvalidData)?;
+    Ok(fields.split_whitespace().map(|field| field.parse().unwrap_or_default()).collect())
+}
+
+/// Whether something listens at this port of 127.0.0.1. A connection to try it would be handed on.
+pub fn listens(port: u16) -> bool {
+    let address = format!("{:08X}:{port:04X}", u32::from_ne_bytes([127, 0, 0, 1]));
+    let sockets = fs::read_to_string("/proc/net/tcp").unwrap_or_default();
+    let is_it = |line: &str| {
+        let mut fields = line.split_whitespace().skip(1);
+        fields.next() == Some(&address) && fields.nth(1) == Some("0A")
+    };
+    sockets.lines().any(is_it)
+}
