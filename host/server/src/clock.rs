@@ -63,7 +63,8 @@ impl Clock for SystemClock {
     }
 
     fn start_from(&mut self, least: u64) {
-        self.base = self.base.max(Duration::from_secs(least));
+        self.base = self.time().max(Duration::from_secs(least));
+        self.started = Instant::now();
         self.refresh();
     }
 

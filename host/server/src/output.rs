@@ -117,3 +117,58 @@ impl Output {
         }
     }
 }
+
+#[cfg(test)]
+mod tests {
+    use std::io::{self, Write};
+
+    use super::{Output, BOUND, CAPACITY};
+    use crate::spare::Spare;
+
+    /// Takes so many bytes at a time, and then no more for once.
+    struct Stream {
+        taken: Vec<u8>,
+        at_a_time: usize,
+        full: bool,
+    }
+
+    impl Write for Stream {
+        fn write(&mut self, bytes: &[u8]) -> io::Result<usize> {
+            if std::mem::replace(&mut self.full, true) {
+                self.full = false;
+                return Err(io::ErrorKind::WouldBlock.into());
+            }
+            let count = bytes.len().min(self.at_a_time);
+            self.taken.extend(&bytes[..count]);
+            Ok(count)
+        }
+
+        fn flush(&mut self) -> io::Result<()> {
+            Ok(())
+        }
+    }
+
+    #[test]
+    fn what_is_added_is_written_in_order_whatever_is_taken_at_a_time() {
+        let mut spare = Spare::new(CAPACITY);
+        let (mut output, mut expected) = (Output::default(), Vec::new());
+        let mut stream = Stream { taken: Vec::new(), at_a_time: 50_000, full: false };
+        for round in 0..60_u8 {
+            let message = vec![round; 65_534 / (1 + usize::from(round % 4))];
+            frames::append(&message, &mut expected).expect("a frame");
+            if round % 2 == 0 {
+                output.append(&message, &mut spare);
+            } else {
+                output.room(message.len(), &mut spare).copy_from_slice(&message);
+                output.commit(message.len());
+            }
+            assert_eq!(output.is_full(), output.len() >= BOUND);
+            output.write_to(&mut stream, &mut spare).expect("a write");
+        }
+        while !output.is_empty() {
+            output.write_to(&mut stream, &mut spare).expect("a write");
+        }
+        assert!(stream.taken == expected, "other bytes");
+        assert!(output.buffer.is_empty(), "a drained output has no buffer");
+    }
+}

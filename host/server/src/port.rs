@@ -150,3 +150,33 @@ fn is_of_the_peer(error: &io::Error) -> bool {
         io::ErrorKind::ConnectionAborted | io::ErrorKind::ConnectionReset | io::ErrorKind::Interrupted
     )
 }
+
+#[cfg(test)]
+mod tests {
+    use std::net::TcpStream;
+    use std::time::{Duration, Instant};
+
+    use socket2::SockRef;
+
+    use super::{bind_free, KERNEL_BUFFER, PROBE_AFTER, PROBE_INTERVAL};
+
+    /// A peer that vanishes without a word can't be had on one machine: these are what ends it.
+    #[test]
+    fn connections_are_probed_and_have_small_buffers() {
+        let listeners = bind_free().expect("free ports");
+        let _peer = TcpStream::connect(listeners.addresses().expect("addresses")[0]).expect("it listens");
+        let mut port = listeners.into_ports().remove(0);
+        let limit = Duration::from_secs(60);
+        while port.candidates.is_empty() {
+            port.ready[0] = true;
+            port.accept(Instant::now(), limit).expect("a connection");
+        }
+        let socket = SockRef::from(&port.candidates[0].stream);
+        assert!(socket.keepalive().expect("an option") && socket.nodelay().expect("an option"));
+        assert_eq!(socket.keepalive_time().expect("an option"), PROBE_AFTER);
+        assert_eq!(socket.keepalive_interval().expect("an option"), PROBE_INTERVAL);
+        assert_eq!(socket.tcp_user_timeout().expect("an option"), Some(limit));
+        let sizes = [socket.recv_buffer_size(), socket.send_buffer_size()].map(|size| size.expect("an option"));
+        assert!(sizes.iter().all(|size| (KERNEL_BUFFER..=2 * KERNEL_BUFFER).contains(size)), "{sizes:?}");
+    }
+}

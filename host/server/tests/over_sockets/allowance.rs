@@ -119,3 +119,55 @@ fn a_clock_that_goes_back_is_no_reason_to_refuse() {
     assert!(relay.peer(0).lease() < 1 << 26);
     assert!(!relay.has_line("refused"));
 }
+
+/// A session of partner 0, whose holder takes what comes.
+fn session(relay: &Relay) -> (Socket, Socket) {
+    let (mut caller, mut holder) = (relay.peer(0), relay.peer(0));
+    caller.establish(&mut holder);
+    (caller, holder)
+}
+
+/// Bytes of data that wait for a holder, and that are taken.
+fn bytes_of(holder: &mut Socket) -> usize {
+    holder.stream.set_read_timeout(Some(Duration::from_millis(100))).expect("a timeout");
+    std::iter::from_fn(|| holder.try_receive()).map(|message| message.len()).sum()
+}
+
+#[test]
+fn a_partner_s_connections_share_a_refill_by_bytes() {
+    let clock = Standing::default();
+    let relay = Relay::with_clock(clock.clone());
+    let ((mut large, mut large_end), (mut small, mut small_end)) = (session(&relay), session(&relay));
+    (0..16).for_each(|_| large.send(Message::DataSend { data: &DATA[..30_000] }));
+    (0..700).for_each(|_| small.send(Message::DataSend { data: &DATA[..500] }));
+    relay.await_waits(0, 1);
+    let first = [bytes_of(&mut large_end), bytes_of(&mut small_end)];
+    let mut later = [0, 0];
+    for _ in 0..3 {
+        clock.advance(1);
+        later[0] += bytes_of(&mut large_end);
+        later[1] += bytes_of(&mut small_end);
+    }
+    // By messages the large ones would have sixty times as much.
+    assert!(first.iter().sum::<usize>() > 200_000, "{first:?}");
+    assert!(later.iter().all(|bytes| (60_000..140_000).contains(bytes)), "{later:?}");
+}
+
+#[test]
+fn a_waiting_partner_holds_up_no_neighbour() {
+    let relay = Relay::with_clock(Standing::default());
+    let mut flood: Vec<_> =
+        (0..7).flat_map(|partner| (0..8).map(move |_| partner)).map(|partner| relay.peer(partner)).collect();
+    let mut keepalives = Vec::new();
+    (0..10_000).for_each(|_| frames::append(&[13], &mut keepalives).expect("a frame"));
+    flood.iter_mut().for_each(|peer| peer.send_bytes(&keepalives));
+    (0..7).for_each(|partner| relay.await_waits(partner, 1));
+    let start = std::time::Instant::now();
+    let (mut caller, mut holder) = (relay.peer(7), relay.peer(7));
+    caller.establish(&mut holder);
+    for _ in 0..1_000 {
+        caller.send(Message::DataSend { data: b"quiet" });
+        assert_eq!(holder.receive(), encode(&Message::DataReceive { data: b"quiet" }));
+    }
+    assert!(start.elapsed() < Duration::from_secs(2), "{:?}", start.elapsed());
+}

@@ -14,6 +14,10 @@ const SOON: Duration = Duration::from_millis(2);
 pub struct Standing(Arc<AtomicU64>);
 
 impl Standing {
+    pub fn from(now: u64) -> Self {
+        Self(Arc::new(now.into()))
+    }
+
     pub fn advance(&self, seconds: u64) {
         self.0.fetch_add(seconds, Ordering::SeqCst);
     }

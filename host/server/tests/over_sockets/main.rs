@@ -2,7 +2,12 @@
 
 mod allowance;
 mod clocks;
+mod deadlines;
+mod floods;
+mod numbers;
 mod slow_readers;
 mod sockets;
+mod state;
 mod stopping;
 mod support;
+mod time;

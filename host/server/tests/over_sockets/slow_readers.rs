@@ -1,15 +1,32 @@
-//! A peer that reads nothing: its senders wait, others don't, and the relay's memory stays bounded.
+//! A peer that reads nothing, or next to nothing: its senders wait, others don't, and the relay's memory stays bounded.
 
-use std::io::Write;
-use std::time::Duration;
+use std::io::{Read, Write};
+use std::thread;
+use std::time::{Duration, Instant};
 
 use codec::{encode, Message};
 use server::{JumpingClock, Limits};
+use socket2::SockRef;
 
-use crate::support::{assert_stops, Relay};
+use crate::support::{assert_stops, Relay, Socket};
 
-/// More bytes than the kernel's buffers and a queue hold.
-const MOST: usize = 1 << 26;
+/// More bytes than the relay and the kernel hold for a peer that reads nothing.
+const MOST: usize = 1 << 24;
+/// What the buffers of the kernel and of the relay hold together, on either side of it: 128 KiB of each socket, an input
+/// of 64 KiB, an output of 64 KiB and a message. The kernel counts more than the bytes.
+const BUFFERS: usize = 1 << 20;
+
+/// Of a peer's own kernel buffers.
+const SMALL: usize = 32_768;
+
+/// A session of two whose own kernel buffers are small, so that what is on its way is with the relay.
+fn session(relay: &Relay) -> (Socket, Socket) {
+    let (mut caller, mut holder) = (relay.peer(0), relay.peer(0));
+    SockRef::from(&caller.stream).set_send_buffer_size(SMALL).expect("a size");
+    SockRef::from(&holder.stream).set_recv_buffer_size(SMALL).expect("a size");
+    caller.establish(&mut holder);
+    (caller, holder)
+}
 
 /// The frame of a send of the largest size.
 fn longest_send() -> Vec<u8> {
@@ -18,65 +35,130 @@ fn longest_send() -> Vec<u8> {
     frame
 }
 
-#[test]
-fn the_sender_to_a_slow_reader_waits_and_nothing_is_lost() {
-    let relay = Relay::with_clock(JumpingClock::default());
-    let (mut caller, mut holder) = (relay.peer(0), relay.peer(0));
-    caller.establish(&mut holder);
-    let frame = longest_send();
-    caller.stream.set_write_timeout(Some(Duration::from_millis(500))).expect("a timeout");
+/// Sends the frame over and over until nothing is taken for a while. Gives how many bytes were.
+fn fill(socket: &mut Socket, frame: &[u8]) -> usize {
+    socket.stream.set_write_timeout(Some(Duration::from_millis(300))).expect("a timeout");
     let mut taken = 0;
-    // The kernel's buffers and the queue are full some time: then the relay takes no more.
     while taken < MOST {
-        match caller.stream.write(&frame[taken % frame.len()..]) {
+        match socket.stream.write(&frame[taken % frame.len()..]) {
             Ok(count) => taken += count,
             Err(_) => break,
         }
     }
-    assert!(taken < MOST, "the relay goes on taking bytes for a peer that reads nothing");
+    taken
+}
+
+#[test]
+fn the_sender_to_a_slow_reader_waits_and_nothing_is_lost() {
+    let relay = Relay::with_clock(JumpingClock::default());
+    let (mut caller, mut holder) = session(&relay);
+    let frame = longest_send();
+    let taken = fill(&mut caller, &frame);
+    assert!((300_000..BUFFERS).contains(&taken), "the relay takes {taken} bytes for a peer that reads nothing");
     // Others of the same partner go on.
     assert!(relay.peer(0).lease() < 1 << 26);
     for _ in 0..taken / frame.len() {
         assert_eq!(holder.receive(), encode(&Message::DataReceive { data: &[7; 65_533] }));
     }
+    // The rest of the frame that was cut.
+    caller.send_bytes(&frame[taken % frame.len()..]);
+    assert_eq!(holder.receive(), encode(&Message::DataReceive { data: &[7; 65_533] }));
+}
+
+/// How long it takes until the relay gives up a holder that reads so many bytes each tenth of a second.
+fn time_until_given_up(bytes: usize, limits: Limits) -> Option<Duration> {
+    let relay = Relay::with_limits(JumpingClock::default(), limits);
+    let (mut caller, mut holder) = session(&relay);
+    fill(&mut caller, &longest_send());
+    let start = Instant::now();
+    while start.elapsed() < 3 * limits.patience {
+        if relay.has_line("partner 0, connection 1: closed, the peer has read next to nothing for too long") {
+            assert_eq!(caller.receive(), encode(&Message::SessionEndNotification));
+            return Some(start.elapsed());
+        }
+        thread::sleep(Duration::from_millis(100));
+        // It fails when the relay has given up.
+        let _ = holder.stream.read_exact(&mut vec![0; bytes]);
+    }
+    None
 }
 
 #[test]
-fn a_peer_that_reads_nothing_is_given_up_and_its_sender_goes_on() {
-    let relay =
-        Relay::with_limits(JumpingClock::default(), Limits { patience: Duration::from_secs(1), ..Limits::default() });
-    let (mut caller, mut holder) = (relay.peer(0), relay.peer(0));
-    caller.establish(&mut holder);
-    let frame = longest_send();
-    // More than the kernel and the queue hold, so the relay takes the last of it when the holder is given up.
-    for _ in 0..400 {
-        caller.send_bytes(&frame);
+fn who_reads_next_to_nothing_is_given_up_in_time() {
+    let limits = Limits { patience: Duration::from_secs(1), least_progress: 60_000, ..Limits::default() };
+    let slack = Duration::from_millis(600);
+    for bytes in [0, 1_000] {
+        let time = time_until_given_up(bytes, limits).expect("given up");
+        // It was full some 300 ms before, and progress is looked at once in the time.
+        assert!(time + slack > limits.patience && time < 2 * limits.patience + slack, "{bytes}: {time:?}");
     }
+    assert_eq!(time_until_given_up(20_000, limits), None, "who reads slowly is served");
+}
+
+#[test]
+fn after_a_peer_is_given_up_its_sender_goes_on() {
+    let limits = Limits { patience: Duration::from_millis(300), ..Limits::default() };
+    let relay = Relay::with_limits(JumpingClock::default(), limits);
+    let (mut caller, _holder) = session(&relay);
+    let frame = longest_send();
+    let taken = fill(&mut caller, &frame);
     relay.await_line("partner 0, connection 1: closed, the peer has read next to nothing for too long");
     assert_eq!(caller.receive(), encode(&Message::SessionEndNotification));
+    caller.stream.set_write_timeout(Some(crate::support::LIMIT)).expect("a timeout");
+    caller.send_bytes(&frame[taken % frame.len()..]);
     assert!(caller.lease() < 1 << 26);
 }
 
 #[test]
 fn the_server_stops_though_a_peer_reads_nothing() {
     let relay = Relay::with_clock(JumpingClock::default());
-    let (mut caller, mut holder) = (relay.peer(0), relay.peer(0));
-    caller.establish(&mut holder);
-    caller.stream.set_write_timeout(Some(Duration::from_millis(200))).expect("a timeout");
-    let frame = longest_send();
-    while caller.stream.write_all(&frame).is_ok() {}
+    let (mut caller, _holder) = session(&relay);
+    fill(&mut caller, &longest_send());
     assert_stops(relay);
+}
+
+#[test]
+fn what_waits_is_still_written_when_the_relay_ends() {
+    let relay = Relay::with_clock(JumpingClock::default());
+    let (mut caller, mut holder) = session(&relay);
+    fill(&mut caller, &longest_send());
+    let accepted = relay.server.statistics()[0].bytes;
+    let stopping = thread::spawn(move || {
+        let start = Instant::now();
+        relay.stop();
+        start.elapsed()
+    });
+    thread::sleep(Duration::from_millis(500));
+    let mut rest = Vec::new();
+    holder.stream.read_to_end(&mut rest).expect("the rest");
+    let time = stopping.join().expect("the relay's end");
+    // Two version answers, a lease request and one to establish are no data; each send has a header of 3 more bytes.
+    let data = accepted - 2 * 2 - 2 - 5;
+    assert_eq!(rest.len() as u64, data + 3 * data.div_ceil(65_534));
+    assert!(
+        time >= Duration::from_millis(500) && time < Duration::from_secs(2),
+        "it ends with the last byte: {time:?}"
+    );
+}
+
+#[test]
+fn who_reads_nothing_is_not_waited_for_when_the_relay_ends() {
+    let relay = Relay::with_clock(JumpingClock::default());
+    let (mut caller, _holder) = session(&relay);
+    fill(&mut caller, &longest_send());
+    let start = Instant::now();
+    relay.stop();
+    let time = start.elapsed();
+    assert!(time >= Duration::from_secs(2) && time < Duration::from_secs(4), "{time:?}");
 }
 
 #[test]
 fn who_is_sent_much_can_send_before_it_reads() {
     let relay = Relay::with_clock(JumpingClock::default());
-    let (mut caller, mut holder) = (relay.peer(0), relay.peer(0));
-    caller.establish(&mut holder);
+    let (mut caller, mut holder) = session(&relay);
     let frame = longest_send();
-    // Fills the caller's queue, which the caller doesn't read yet.
-    holder.stream.set_write_timeout(Some(Duration::from_millis(200))).expect("a timeout");
-    while holder.stream.write_all(&frame).is_ok() {}
+    // Fills the caller's output, which the caller doesn't read yet.
+    fill(&mut holder, &frame);
     for _ in 0..20 {
         caller.send_bytes(&frame);
         assert_eq!(holder.receive(), encode(&Message::DataReceive { data: &[7; 65_533] }));
@@ -87,9 +169,10 @@ fn who_is_sent_much_can_send_before_it_reads() {
 fn who_requests_much_has_to_read_the_replies() {
     let relay = Relay::with_clock(JumpingClock::default());
     let mut peer = relay.peer(0);
+    SockRef::from(&peer.stream).set_recv_buffer_size(SMALL).expect("a size");
     let mut requests = Vec::new();
     (0..10_000).for_each(|_| frames::append(&[2, 0], &mut requests).expect("a frame"));
-    peer.stream.set_write_timeout(Some(Duration::from_millis(500))).expect("a timeout");
-    let taken = (0..MOST / requests.len()).take_while(|_| peer.stream.write_all(&requests).is_ok()).count();
-    assert!(taken < MOST / requests.len(), "the relay goes on taking requests of a peer that reads nothing");
+    let taken = fill(&mut peer, &requests);
+    // Two thirds of it wait in the kernel of the peer, whose own send buffer is large.
+    assert!(taken < MOST / 2, "the relay takes {taken} bytes of requests of a peer that reads nothing");
 }

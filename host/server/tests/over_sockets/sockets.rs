@@ -1,12 +1,11 @@
 //! The relay over real sockets: what peers do well, badly and not at all.
 
-use std::io::Write;
 use std::time::Duration;
 
 use codec::{encode, Message};
 use frames::MESSAGE_LIMIT;
 
-use crate::support::{Relay, Socket, LIMIT};
+use crate::support::{Relay, LIMIT};
 
 #[test]
 fn data_goes_to_the_peer_in_session_and_the_end_is_told() {
@@ -99,88 +98,4 @@ fn a_message_without_a_session_is_dropped_and_the_connection_goes_on() {
     assert_eq!(got[6].dropped, 2);
     let refused = "partner 6, connection 48: refused with 8, there is no session: the message is dropped";
     assert_eq!(log.iter().filter(|line| *line == refused).count(), 2, "{log:?}");
-}
-
-#[test]
-fn a_peer_that_vanishes_ends_its_session_and_frees_its_number() {
-    let relay = Relay::start();
-    let mut holder = relay.peer(5);
-    for vanish in [Socket::leave, |mut socket: Socket| socket.send_bytes(&[0, 100, 1, 11, 7])] {
-        let mut caller = relay.peer(5);
-        caller.establish(&mut holder);
-        vanish(caller);
-        assert_eq!(holder.receive(), encode(&Message::SessionEndNotification));
-        relay.await_line("partner 5, connection 41: connected");
-        // A lease lasts, and a connection holds one only: the next caller is told by another holder.
-        holder = relay.peer(5);
-    }
-    relay.await_line("the stream ended within a frame");
-}
-
-#[test]
-fn a_ninth_connection_is_refused_until_one_of_the_eight_has_gone() {
-    let relay = Relay::start();
-    let mut eight: Vec<Socket> = (0..8).map(|_| relay.peer(3)).collect();
-    let mut ninth = relay.socket(3);
-    assert_eq!(ninth.receive(), None);
-    relay.await_line("partner 3: a connection is refused, all 8 of this partner are in use");
-    assert!(relay.peer(4).lease() < 1 << 26, "another partner has eight of its own");
-    eight.remove(4).leave();
-    relay.await_line("partner 3, connection 28: closed");
-    // The number is free a moment after the line.
-    relay.patient_peer(3);
-    assert!(eight.iter_mut().all(|peer| peer.lease() < 1 << 26));
-}
-
-/// A connection whose thread had ended by a panic would keep its number: eight of them, and the partner had none left.
-#[test]
-fn no_bytes_cost_a_partner_a_connection() {
-    let relay = Relay::start();
-    let mut random = Random(20_220_725);
-    for round in 0..300 {
-        let mut peer = if round % 2 == 0 { relay.patient_peer(0) } else { relay.socket(0) };
-        for _ in 0..random.below(6) {
-            let bytes = random.some_frame();
-            // The relay may have closed the connection for an earlier one.
-            if peer.stream.write_all(&bytes).is_err() {
-                break;
-            }
-        }
-        if round % 3 == 0 {
-            peer.leave();
-        }
-    }
-    let mut eight: Vec<Socket> = (0..8).map(|_| relay.patient_peer(0)).collect();
-    assert!(eight.iter_mut().all(|peer| peer.lease() < 1 << 26));
-}
-
-/// Numbers that repeat from run to run (xorshift64).
-struct Random(u64);
-
-impl Random {
-    fn below(&mut self, limit: u64) -> u64 {
-        self.0 ^= self.0 << 13;
-        self.0 ^= self.0 >> 7;
-        self.0 ^= self.0 << 17;
-        self.0 % limit
-    }
-
-    /// Bytes that may be a frame, often of a known type, or nearly one.
-    fn some_frame(&mut self) -> Vec<u8> {
-        let length = [0, 1, 2, 5, 25, 26, 49, 300][self.below(8) as usize];
-        let mut message: Vec<u8> = (0..length).map(|_| self.below(256) as u8).collect();
-        if let Some(first) = message.first_mut() {
-            *first = self.below(15) as u8;
-        }
-        let mut frame = Vec::new();
-        frames::append(&message, &mut frame).expect("a frame");
-        if self.below(4) == 0 {
-            let place = self.below(frame.len() as u64) as usize;
-            frame[place] = self.below(256) as u8;
-        }
-        if self.below(4) == 0 {
-            frame.truncate(self.below(frame.len() as u64) as usize);
-        }
-        frame
-    }
 }

@@ -50,10 +50,7 @@ impl Relay {
 
     /// A socket to the partner's port; nothing has been said on it.
     pub fn socket(&self, partner: usize) -> Socket {
-        let stream = TcpStream::connect(self.server.addresses()[partner]).expect("the relay listens");
-        stream.set_read_timeout(Some(LIMIT)).expect("a timeout");
-        stream.set_write_timeout(Some(LIMIT)).expect("a timeout");
-        Socket { stream, reader: Reader::default() }
+        Socket::over(TcpStream::connect(self.server.addresses()[partner]).expect("the relay listens"))
     }
 
     /// A connection of the partner with its version answered.
@@ -81,6 +78,11 @@ impl Relay {
     /// Waits for a line of the log that has this text.
     pub fn await_line(&self, text: &str) {
         self.wait_until(|| self.has_line(text), &format!("no line with '{text}'"));
+    }
+
+    /// Likewise with one of these texts.
+    pub fn await_any(&self, texts: &[String]) {
+        self.wait_until(|| texts.iter().any(|text| self.has_line(text)), &format!("no line with any of {texts:?}"));
     }
 
     /// Waits until so many calls of the partner have been made to wait.
@@ -116,6 +118,12 @@ pub struct Socket {
 }
 
 impl Socket {
+    pub fn over(stream: TcpStream) -> Self {
+        stream.set_read_timeout(Some(LIMIT)).expect("a timeout");
+        stream.set_write_timeout(Some(LIMIT)).expect("a timeout");
+        Self { stream, reader: Reader::default() }
+    }
+
     pub fn send(&mut self, message: Message) {
         self.send_message(&encode(&message).expect("a message in range"));
     }
@@ -133,6 +141,11 @@ impl Socket {
     /// The next message, or None at the end of the stream.
     pub fn receive(&mut self) -> Option<Vec<u8>> {
         self.reader.next(&mut self.stream).expect("a message or the end").map(<[u8]>::to_vec)
+    }
+
+    /// The next message, unless none comes in time.
+    pub fn try_receive(&mut self) -> Option<Vec<u8>> {
+        self.reader.next(&mut self.stream).ok().flatten().map(<[u8]>::to_vec)
     }
 
     /// Whether the relay has closed the connection. What it sent before is passed over.

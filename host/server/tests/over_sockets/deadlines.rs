@@ -1,0 +1,64 @@
+//! Peers that say nothing, or stop within a frame.
+
+use std::io::Write;
+use std::thread;
+use std::time::{Duration, Instant};
+
+use codec::Message;
+use server::{Limits, SystemClock};
+
+use crate::support::{Relay, Socket};
+
+const SHORT: Duration = Duration::from_millis(400);
+
+/// A relay whose deadlines for a version answer and a frame are short.
+fn impatient() -> Relay {
+    Relay::with_limits(SystemClock::new(), Limits { version: SHORT, frame: SHORT, ..Limits::default() })
+}
+
+/// Sends a byte now and then, and gives how long the relay took it.
+fn trickle(mut socket: Socket, bytes: &[u8]) -> Duration {
+    let start = Instant::now();
+    for byte in bytes {
+        if socket.stream.write_all(&[*byte]).is_err() {
+            break;
+        }
+        thread::sleep(SHORT / 8);
+    }
+    start.elapsed()
+}
+
+#[test]
+fn who_does_not_answer_the_version_is_closed() {
+    let relay = impatient();
+    let start = Instant::now();
+    assert!(relay.socket(0).is_closed());
+    assert!(start.elapsed() >= SHORT, "closed too early");
+    relay.await_line("partner 0, connection 0: closed, the peer hasn't answered the relay's version in time");
+    // Half of an answer is none.
+    let mut half = relay.socket(0);
+    half.send_bytes(&[0, 3, 1]);
+    assert!(half.is_closed());
+    // Who has answered may be silent as long as it likes.
+    let mut peer = relay.peer(0);
+    thread::sleep(2 * SHORT);
+    assert!(peer.lease() < 1 << 26);
+}
+
+#[test]
+fn who_begins_a_frame_has_to_end_it() {
+    let relay = impatient();
+    let time = trickle(relay.peer(0), &[&[3, 232, 1, 11][..], &[7; 60]].concat());
+    assert!(time >= SHORT && time < 4 * SHORT, "a byte now and then doesn't move the deadline: {time:?}");
+    relay.await_line("partner 0, connection 0: closed, the peer has left a frame unfinished for too long");
+    // A frame that comes slowly, but in time.
+    let mut slow = relay.peer(0);
+    for _ in 0..3 {
+        for byte in [0, 2, 1, 13] {
+            slow.send_bytes(&[byte]);
+            thread::sleep(SHORT / 8);
+        }
+    }
+    slow.send(Message::Keepalive);
+    assert!(slow.lease() < 1 << 26);
+}

@@ -1,0 +1,164 @@
+//! The state file: what a restart keeps, and files that are none.
+
+use std::fs;
+use std::io;
+use std::path::Path;
+use std::thread;
+use std::time::{Duration, Instant};
+
+use codec::Message;
+use server::{bind_free, Log, LogFormat, Server, Settings, SystemClock};
+use tempfile::TempDir;
+
+use crate::clocks::Standing;
+use crate::support::{Relay, LIMIT};
+
+/// Bytes of the three tables.
+const SIZE: usize = 4_096 + 5_120 + 144;
+
+fn folder() -> TempDir {
+    tempfile::tempdir().expect("a folder")
+}
+
+fn with_state(clock: impl server::Clock + 'static, file: &Path) -> Relay {
+    Relay::with_settings(clock, |settings| settings.state = Some(file.to_owned()))
+}
+
+/// Why a relay with this state file doesn't start.
+fn refusal(file: &Path) -> String {
+    let settings = Settings {
+        state: Some(file.to_owned()),
+        ..Settings::new(SystemClock::new(), Log::new(LogFormat::Text, |_| ()))
+    };
+    match Server::start(bind_free().expect("free ports"), settings) {
+        Ok(_) => panic!("it starts"),
+        Err(error) => error.to_string(),
+    }
+}
+
+/// The status that a session with the holder of the id is refused with.
+fn establish_status(relay: &Relay, id: u32) -> u8 {
+    let mut caller = relay.peer(0);
+    caller.send(Message::EstablishRequest { id });
+    match codec::decode(&caller.receive().expect("an answer")) {
+        Some(Message::EstablishRefused { status, .. }) => status,
+        other => panic!("{other:?}"),
+    }
+}
+
+#[test]
+fn leases_and_allowances_go_on_after_a_restart() {
+    let folder = folder();
+    let file = folder.path().join("state");
+    let clock = Standing::from(1_000);
+    let relay = with_state(clock.clone(), &file);
+    let mut holder = relay.peer(0);
+    let id = holder.lease();
+    let mut poor = relay.peer(1);
+    (0..9_000).for_each(|_| poor.send(Message::Keepalive));
+    relay.await_line("partner 1, connection 8: refused with 9");
+    relay.stop();
+    assert_eq!(fs::read(&file).expect("a state").len(), SIZE);
+
+    let relay = with_state(clock.clone(), &file);
+    assert_eq!(establish_status(&relay, id), 2, "leased, and its holder offline");
+    let mut late = relay.socket(1);
+    late.stream.set_read_timeout(Some(Duration::from_millis(100))).expect("a timeout");
+    assert!(!late.is_closed() && relay.server.statistics()[1].done == 0, "the allowance is still used up");
+    relay.stop();
+
+    clock.advance(3_600);
+    let relay = with_state(clock, &file);
+    assert_eq!(establish_status(&relay, id), 1, "the lease has ended meanwhile");
+}
+
+/// Waits until the state file is another than this.
+fn await_change(file: &Path, old: &[u8]) -> Vec<u8> {
+    let end = Instant::now() + LIMIT;
+    loop {
+        let bytes = fs::read(file).expect("a state");
+        if bytes != old {
+            return bytes;
+        }
+        assert!(Instant::now() < end, "nothing is saved");
+        thread::sleep(Duration::from_millis(10));
+    }
+}
+
+#[test]
+fn the_state_is_saved_while_the_relay_runs_and_connections_of_a_killed_one_are_closed() {
+    let folder = folder();
+    let (file, copy) = (folder.path().join("state"), folder.path().join("copy"));
+    let relay = with_state(SystemClock::new(), &file);
+    let fresh = fs::read(&file).expect("it is written at the start");
+    let eight: Vec<_> = (0..8).map(|_| relay.peer(0)).collect();
+    let start = Instant::now();
+    thread::sleep(Duration::from_millis(100));
+    let saved = await_change(&file, &fresh);
+    assert!(start.elapsed() < Duration::from_secs(1), "it took {:?}", start.elapsed());
+    // What a killed relay would leave: some connections are open in it.
+    fs::write(&copy, saved).expect("a copy");
+    drop(eight);
+    let second = with_state(SystemClock::new(), &copy);
+    let mut again: Vec<_> = (0..8).map(|_| second.peer(0)).collect();
+    assert!(again.iter_mut().all(|peer| peer.lease() < 1 << 26));
+}
+
+#[test]
+fn a_file_that_is_no_state_is_refused_and_left_alone() {
+    let folder = folder();
+    let file = folder.path().join("state");
+    let wrong = [vec![], vec![0; SIZE - 1], vec![0; SIZE + 1], b"a letter to mother".to_vec()];
+    for bytes in wrong {
+        fs::write(&file, &bytes).expect("a file");
+        let why = refusal(&file);
+        assert!(why.contains("state'") && why.contains(&format!("{} bytes and not {SIZE}", bytes.len())), "{why}");
+        assert_eq!(fs::read(&file).expect("the file"), bytes);
+    }
+    let mut late = vec![0; SIZE];
+    late[SIZE - 6] = 1;
+    fs::write(&file, &late).expect("a file");
+    assert!(refusal(&file).contains("its clock is at 1099511627776, out of range"), "{}", refusal(&file));
+    assert_eq!(fs::read(&file).expect("the file"), late);
+}
+
+#[test]
+fn a_folder_that_cannot_be_written_and_a_file_in_use_are_refused() {
+    let folder = folder();
+    let nowhere = folder.path().join("missing").join("state");
+    assert!(refusal(&nowhere).contains("missing"), "{}", refusal(&nowhere));
+    assert!(refusal(folder.path()).contains("the state file"), "a folder is no file");
+    let file = folder.path().join("state");
+    let relay = with_state(SystemClock::new(), &file);
+    assert!(refusal(&file).contains("another relay uses it"), "{}", refusal(&file));
+    relay.stop();
+    with_state(SystemClock::new(), &file).stop();
+}
+
+#[test]
+fn the_clock_never_begins_before_that_of_the_file() -> io::Result<()> {
+    let folder = folder();
+    let file = folder.path().join("state");
+    let relay = with_state(Standing::from(1 << 39), &file);
+    let id = relay.peer(0).lease();
+    relay.stop();
+    // The machine's time is long before it, and no partner has to wait for it.
+    let relay = with_state(SystemClock::new(), &file);
+    let mut peer = relay.peer(0);
+    (0..8_100).for_each(|_| peer.send(Message::Keepalive));
+    assert!(peer.lease() < 1 << 26, "allowances refill");
+    assert_eq!(establish_status(&relay, id), 2, "the lease goes on");
+    Ok(())
+}
+
+#[test]
+fn only_its_owner_can_read_it() {
+    use std::os::unix::fs::PermissionsExt;
+    let folder = folder();
+    let file = folder.path().join("state");
+    with_state(SystemClock::new(), &file).stop();
+    assert_eq!(fs::metadata(&file).expect("a file").permissions().mode() & 0o777, 0o600);
+    let left: Vec<_> =
+        fs::read_dir(folder.path()).expect("a folder").flatten().map(|entry| entry.file_name()).collect();
+    assert!(!left.iter().any(|name| name == "state.new"), "{left:?}");
+}
