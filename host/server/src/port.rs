@@ -12,7 +12,7 @@ use crate::PARTNERS;
 
 /// The kernel's buffers of a connection, each; it takes twice as much. Larger ones would let a peer send in advance what
 /// its partner then pays for long after the peer has gone.
-const KERNEL_BUFFER: usize = 65_536;
+const KERNEL_BUFFER: usize = 131_072;
 /// Connections that the kernel keeps for a listener.
 const BACKLOG: i32 = 128;
 /// Connections of a partner that may wait for a number.
