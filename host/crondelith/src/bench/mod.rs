@@ -7,23 +7,36 @@ mod loopback;
 mod measure;
 mod relays;
 
-use crate::arguments::Arguments;
+use clap::Args;
+
+use crate::signals::Watch;
 use crate::{say, Failure, Outcome};
 use measure::{Comparison, Medians};
 
-pub const HELP: &str = "\
-usage: crondelith bench
+const ABOUT: &str = "\
+Measures the proved engine, each time beside something that does the same work.";
 
-Measures the proved engine, each time beside something that does the same work.
-
-Prints a Markdown table. A row has the nanoseconds that one repetition takes of the engine and of the other side, which
-is the second implementation unless the row says otherwise, and their ratio: below 1 the engine is faster. Both sides
-are measured in turn, batch by batch, and the median batch counts. Every answer is checked, and after every batch the
-bytes that both sides left. The last row is the whole relay over TCP on this machine, beside a loop that copies from
-one socket to another; its clock jumps, so that nobody waits for an allowance.
+const DETAILS: &str = "\
+Prints a Markdown table. A row has the nanoseconds that one repetition takes of the engine and of
+the other side, which is the second implementation unless the row says otherwise, and their ratio:
+below 1 the engine is faster. Both sides are measured in turn, batch by batch, and the median batch
+counts. Every answer is checked, and after every batch the bytes that both sides left. The last row
+is the whole relay over TCP on this machine, beside a loop that copies from one socket to another;
+its clock jumps, so that nobody waits for an allowance.
 
 It takes some ten seconds, and is meant for a machine with nothing else to do.
-";
+
+The exit status is 0 if all was measured, 1 if not, also when interrupted before (Ctrl-C), and 2 if
+the arguments are wrong.";
+
+/// Measure the proved engine beside the second implementation and plain copies
+#[derive(Args)]
+#[command(long_about = ABOUT, after_long_help = DETAILS)]
+pub struct Arguments {
+    /// Measure the relay with many peers at once instead
+    #[arg(long)]
+    peers: bool,
+}
 
 /// Rows, and what is hoped of them, if anything.
 struct Section {
@@ -68,7 +81,10 @@ impl Section {
 const SECTIONS: [fn() -> Result<Section, Failure>; 3] = [calls::section, copy::section, loopback::section];
 
 pub fn run(arguments: Arguments) -> Outcome {
-    arguments.others([])?;
+    Watch::start("interrupted")?;
+    if arguments.peers {
+        return Err(Failure::Failed("bench: nothing measures peers yet".into()));
+    }
     if cfg!(debug_assertions) {
         say("This is a debug build: its numbers mean nothing.\n");
     }
