@@ -88,6 +88,25 @@ fn the_demonstration_and_the_benchmark_are_interrupted() {
 }
 
 #[test]
+fn a_relay_ends_without_a_free_file_descriptor() {
+    let relay = Relay::start(&[]);
+    let _idle = TcpStream::connect(("127.0.0.1", relay.base_port)).expect("a connection");
+    relay.program.allow_no_descriptor();
+    relay.program.signal("TERM");
+    assert_eq!(relay.program.end().status, Some(0));
+}
+
+#[test]
+fn a_receiver_ends_without_a_free_file_descriptor() {
+    let relay = Relay::start(&[]);
+    let folder = folder("no_descriptor");
+    let (receiver, _) = relay.receiver(&folder.join("copy"), &[]);
+    receiver.allow_no_descriptor();
+    interrupt(receiver, "TERM", "interrupted before the whole file had come");
+    assert_eq!(files(&folder), 0);
+}
+
+#[test]
 fn a_second_signal_ends_the_program_at_once() {
     for signals in [["INT", "INT"], ["TERM", "INT"], ["HUP", "TERM"]] {
         // It waits for somebody to take its first line, so it can't end in order.

@@ -67,8 +67,18 @@ impl Running {
 
     /// Sends a signal, as a user does.
     pub fn signal(&self, name: &str) {
-        let sent = Command::new("sh").args(["-c", &format!("kill -{name} {}", self.child.id())]).status();
-        assert!(sent.expect("a shell").success());
+        self.shell(&format!("kill -{name}"));
+    }
+
+    /// From now on it gets no further file descriptor.
+    pub fn allow_no_descriptor(&self) {
+        self.shell("prlimit --nofile=0 --pid");
+    }
+
+    /// Runs a command of the shell on the program's process.
+    fn shell(&self, command: &str) {
+        let done = Command::new("sh").args(["-c", &format!("{command} {}", self.child.id())]).status();
+        assert!(done.expect("a shell").success(), "{command}");
     }
 
     /// The next line of stdout.
