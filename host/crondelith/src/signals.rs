@@ -21,7 +21,7 @@ impl Signals {
     /// From now on the signals end nothing by themselves. What ending needs is made here, since there may be no free file
     /// descriptor by then.
     pub fn register() -> Result<Self, Failure> {
-        Self::try_register().map_err(|error| Failure::Failed(format!("signals can't be watched: {error}")))
+        Self::try_register().map_err(unwatched)
     }
 
     fn try_register() -> io::Result<Self> {
@@ -47,6 +47,10 @@ impl Signals {
     }
 }
 
+fn unwatched(error: io::Error) -> Failure {
+    Failure::Failed(format!("signals can't be watched: {error}"))
+}
+
 /// Whether a signal is ignored from the program's start, as nohup does with SIGHUP. Then it is to stay so.
 fn is_ignored(signal: c_int) -> bool {
     let status = fs::read_to_string("/proc/self/status").unwrap_or_default();
@@ -66,7 +70,11 @@ pub struct Watch {
 impl Watch {
     /// Starts with no connection. `why` is what the line says.
     pub fn start(why: &'static str) -> Result<Self, Failure> {
-        let mut signals = Signals::register()?;
+        Self::try_start(why).map_err(unwatched)
+    }
+
+    fn try_start(why: &'static str) -> io::Result<Self> {
+        let mut signals = Signals::try_register()?;
         let watch = Self { why, come: Arc::default(), connection: Arc::default() };
         let (come, connection) = (Arc::clone(&watch.come), Arc::clone(&watch.connection));
         let wait = move || {
@@ -74,8 +82,7 @@ impl Watch {
             come.store(true, Ordering::SeqCst);
             end(why, &connection);
         };
-        let started = thread::Builder::new().spawn(wait);
-        started.map_err(|error| Failure::Failed(format!("signals can't be watched: {error}")))?;
+        thread::Builder::new().spawn(wait)?;
         Ok(watch)
     }
 

@@ -28,6 +28,12 @@ fn broken_pipes_change_no_exit_status() {
 }
 
 #[test]
+fn a_demonstration_that_nobody_reads_goes_on() {
+    let mut demo = Running::start(program(&["demo"]).stdout(broken_pipe()));
+    assert!(!demo.ends_within(WHILE), "{}", demo.end().stderr);
+}
+
+#[test]
 fn a_relay_whose_log_nobody_reads_goes_on() {
     let (mut relay, port, ()) = start_unheard(|| (broken_pipe(), ()));
     // Each has log lines.
