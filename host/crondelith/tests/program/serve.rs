@@ -57,6 +57,22 @@ fn a_relay_listens_on_two_addresses() {
     send_between(&relay, "127.0.0.1", "::1");
 }
 
+#[test]
+fn a_relay_keeps_its_tables_in_a_file() {
+    let folder = folder("tables");
+    let state = folder.join("state");
+    let relay = Relay::start(&["--state", text(&state)]);
+    let (receiver, id) = relay.receiver(&folder.join("copy"), &[]);
+    relay.program.signal("TERM");
+    assert_eq!(relay.program.end().status, Some(0));
+    assert_eq!(receiver.end().status, Some(1));
+
+    let relay = Relay::start(&["--state", text(&state)]);
+    let sender = Running::start(&mut relay.peer(&["send", &id, "/etc/passwd"])).end();
+    assert_eq!(sender.status, Some(1));
+    assert!(sender.last_line().contains("offline"), "the lease runs on: {}", sender.stderr);
+}
+
 /// A line of a JSON log, which must have a time and an event.
 fn event(line: &str) -> Value {
     let event: Value = serde_json::from_str(line).unwrap_or_else(|error| panic!("{error}: {line}"));
