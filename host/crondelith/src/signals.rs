@@ -1,5 +1,5 @@
-//! The signals that ask the program to end: Ctrl-C (SIGINT), the usual request to a service (SIGTERM) and the end of the
-//! terminal (SIGHUP).
+//! The signals that ask the program to end: Ctrl-C (SIGINT), the usual request to a service (SIGTERM) and the end of
+//! the terminal (SIGHUP).
 
 use std::ffi::c_int;
 use std::sync::atomic::{AtomicBool, Ordering};
@@ -18,8 +18,8 @@ const INTERRUPTED: c_int = 1;
 pub struct Signals(iterator::Signals);
 
 impl Signals {
-    /// From now on the signals end nothing by themselves. What ending needs is made here, since there may be no free file
-    /// descriptor by then.
+    /// From now on the signals end nothing by themselves. What ending needs is made here, since there may be no free
+    /// file descriptor by then.
     pub fn register() -> Result<Self, Failure> {
         Self::try_register().map_err(unwatched)
     }
@@ -31,8 +31,8 @@ impl Signals {
         // Only the handlers set it, one after the other: else the first signal could be taken for the second.
         let asked = Arc::new(AtomicBool::new(false));
         for signal in asking {
-            // Who asks again doesn't want to wait. SIGHUP isn't asking again: the shell and the system both send it when
-            // a terminal is closed.
+            // Who asks again doesn't want to wait. SIGHUP isn't asking again: the shell and the system both send it
+            // when a terminal is closed.
             if signal != SIGHUP {
                 flag::register_conditional_shutdown(signal, INTERRUPTED, Arc::clone(&asked))?;
             }
@@ -59,8 +59,8 @@ fn is_ignored(signal: c_int) -> bool {
     mask.is_some_and(|mask| mask >> (signal - 1) & 1 == 1)
 }
 
-/// Ends the program at the first signal: with a line and status 1, or, from when it has a connection to tidy up after, by
-/// closing that.
+/// Ends the program at the first signal: with a line and status 1, or, from when it has a connection to tidy up after,
+/// by closing that.
 pub struct Watch {
     why: &'static str,
     come: Arc<AtomicBool>,
