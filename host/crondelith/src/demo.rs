@@ -5,20 +5,27 @@ use std::net::SocketAddr;
 use std::thread::{self, JoinHandle};
 use std::time::{Duration, Instant};
 
+use clap::Args;
 use codec::Message;
 use peer::{grouped, receive_file, send_file, Peer};
 use server::{bind_free, Clock, Log, LogFormat, Server, Settings, Statistics, SystemClock, CONNECTIONS_EACH};
 
-use crate::arguments::Arguments;
+use crate::signals::Watch;
 use crate::{say, Failure, Outcome};
 
-pub const HELP: &str = "\
-usage: crondelith demo
+const ABOUT: &str = "\
+Runs a relay on free ports of this machine and sends a file of 512 KiB through it, by itself and
+then while another partner floods the relay: eight connections that request leases without end.
+Prints what each partner got and how long the file took. Ends by itself in some fifteen seconds.";
 
-Runs a relay on free ports of this machine and sends a file of 512 KiB through it, by itself and then while another
-partner floods the relay: eight connections that request leases without end. Prints what each partner got and how long
-the file took. Ends by itself in some fifteen seconds, with exit status 1 if the file didn't arrive unchanged.
-";
+const STATUSES: &str = "\
+The exit status is 0 if the file arrived unchanged both times, 1 if not, also when interrupted
+before (Ctrl-C), and 2 if the arguments are wrong.";
+
+/// Have one partner flood a relay while another sends a file through it
+#[derive(Args)]
+#[command(long_about = ABOUT, after_long_help = STATUSES)]
+pub struct Arguments {}
 
 /// Which partner floods, and which sends the file.
 const FLOOD: usize = 0;
@@ -29,8 +36,8 @@ const FLOOD_LEAD: Duration = Duration::from_millis(800);
 /// Lease requests that a flooding connection sends at a time.
 const BURST: usize = 64;
 
-pub fn run(arguments: Arguments) -> Outcome {
-    arguments.others([])?;
+pub fn run(Arguments {}: Arguments) -> Outcome {
+    Watch::start("interrupted")?;
     let file = contents();
     say(format_args!("Partner {FILE} sends a file of 512 KiB through the relay, by itself .."));
     let alone = scene(&file, false).map_err(failed)?;

@@ -2,71 +2,120 @@
 
 use std::fs::File;
 use std::io::{stderr, stdout, IsTerminal, Stderr, Write};
-use std::path::Path;
-use std::thread;
+use std::path::{Path, PathBuf};
+use std::time::Duration;
 
+use clap::{value_parser, Args, Subcommand};
 use codec::DATA_LIMIT;
 use peer::{confirm, receive_contents, send_contents, Error, Meter, PartFile, Peer, MESSAGE_SIZE};
 use server::PARTNERS;
 
-use crate::arguments::{usage, Arguments, Known};
+use crate::relay_address::RelayAddress;
 use crate::serve::{DEFAULT_BASE_PORT, HIGHEST_BASE_PORT};
+use crate::signals::Watch;
+use crate::stall::StallWatch;
 use crate::{note, Failure, Outcome};
 
-pub const HELP: &str = "\
-usage: crondelith peer receive FILE [OPTIONS]
-       crondelith peer send ID FILE [OPTIONS]
+const ABOUT: &str = "\
+Receives or sends a file through a relay: 'receive' leases an id, prints it on stdout and waits;
+'send' sends a file to the peer that has the id.";
 
-'receive' leases an id, prints it on stdout and waits; 'send' sends a file to the peer that has the id.
+const RECEIVE_ABOUT: &str = "\
+Leases an id, prints it on stdout, waits for a sender and receives its file.";
 
-  --relay ADDRESS     where the relay runs (default 127.0.0.1)
-  --base-port N       the relay's port for partner 0 (default 7700)
-  --partner N         the partner, 0 to 7, that both peers belong to (default 0)
-  --force             receive: replace FILE if it exists
-  --message-size N    send: bytes of the file in each message, 1 to 65533 (default 16384)
+const SEND_ABOUT: &str = "\
+Sends a file to the peer that has the id.";
 
-The receiver writes to FILE with '.part' after its name and gives it its name once it is complete; otherwise it removes
-it. While it waits it extends its lease; if the relay doesn't extend it, it leases another id and prints that one too.
-The sender is done when the receiver has confirmed all bytes. A relay hands on 65,536 bytes a second for a partner whose
-allowance is used up.
+const DETAILS: &str = "\
+With a port in '--relay', '--port' and '--partner' may not be given.
 
-The exit status is 0 if the whole file has come, 1 if not, and 2 if the arguments are wrong or FILE is in the way.
-";
+The receiver writes to FILE with '.part' after its name and gives it its name once it is complete;
+otherwise it removes it. While it waits it extends its lease; if the relay doesn't extend it, it
+leases another id and prints that one too. The sender is done when the receiver has confirmed all
+bytes. A relay hands on 65,536 bytes a second for a partner whose allowance is used up.
 
-pub const OPTIONS: [Known; 5] = [
-    Known { name: "--relay", has_value: true },
-    Known { name: "--base-port", has_value: true },
-    Known { name: "--partner", has_value: true },
-    Known { name: FORCE, has_value: false },
-    Known { name: SIZE, has_value: true },
-];
+The exit status is 0 if the whole file has come, 1 if not, also when interrupted before (Ctrl-C),
+and 2 if the arguments are wrong or FILE is in the way.";
 
-const FORCE: &str = "--force";
-const SIZE: &str = "--message-size";
+/// Receive or send a file through a relay
+#[derive(Args)]
+#[command(long_about = ABOUT, after_long_help = DETAILS, arg_required_else_help = false)]
+pub struct Arguments {
+    #[command(subcommand)]
+    direction: Direction,
+    #[command(flatten)]
+    options: Options,
+}
+
+#[derive(Subcommand)]
+enum Direction {
+    /// Lease an id, print it and receive a file
+    #[command(long_about = RECEIVE_ABOUT, after_long_help = DETAILS)]
+    Receive {
+        /// Where the file goes
+        file: PathBuf,
+    },
+    /// Send a file to the peer that has the id
+    #[command(long_about = SEND_ABOUT, after_long_help = DETAILS)]
+    Send {
+        /// The id, a number as 'receive' prints it
+        id: u32,
+        /// The file to send
+        file: PathBuf,
+    },
+}
+
+/// All of them global, so that they may stand anywhere after 'peer'.
+#[derive(Args)]
+struct Options {
+    /// Where the relay runs: a name, an IPv4 or an IPv6 address, which may
+    /// have the partner's port: NAME:PORT, [IPv6]:PORT
+    #[arg(long, global = true, verbatim_doc_comment, value_name = "ADDRESS", default_value = "127.0.0.1")]
+    relay: RelayAddress,
+
+    /// The relay's port for partner 0, 1 to 65528
+    /// [default: 7700]
+    #[arg(long, global = true, verbatim_doc_comment, visible_alias = "base-port", value_name = "N",
+        value_parser = value_parser!(u16).range(1..=i64::from(HIGHEST_BASE_PORT)))]
+    port: Option<u16>,
+
+    /// The partner, 0 to 7, that both peers belong to [default: 0]
+    #[arg(long, global = true, value_name = "N",
+        value_parser = value_parser!(u16).range(0..PARTNERS as i64))]
+    partner: Option<u16>,
+
+    /// Give up a transfer that stands still for so long [default: never]
+    #[arg(long, global = true, value_name = "SECONDS", value_parser = value_parser!(u32).range(1..))]
+    timeout: Option<u32>,
+
+    /// Replace FILE if it exists
+    #[arg(long, global = true, help_heading = "Options of 'receive'")]
+    force: bool,
+
+    /// Bytes of the file in each message, 1 to 65533 [default: 16384]
+    #[arg(long, global = true, help_heading = "Options of 'send'", value_name = "N",
+        value_parser = value_parser!(u16).range(1..=DATA_LIMIT as i64))]
+    message_size: Option<u16>,
+}
 
 pub fn run(arguments: Arguments) -> Outcome {
-    let direction = arguments.others.first().map(|word| word.to_string_lossy());
-    match direction.as_deref() {
-        Some("receive") if arguments.text(SIZE).is_some() => Err(usage(format!("'{SIZE}' is an option of 'send'"))),
-        Some("receive") => receive(&arguments),
-        Some("send") if arguments.has(FORCE) => Err(usage(format!("'{FORCE}' is an option of 'receive'"))),
-        Some("send") => send(&arguments),
-        Some(other) => Err(usage(format!("a peer can 'receive' or 'send', not '{other}'"))),
-        None => Err(usage("'receive' or 'send' is missing: 'crondelith peer --help' tells more".into())),
+    let Arguments { direction, options } = arguments;
+    match direction {
+        Direction::Receive { .. } if options.message_size.is_some() => {
+            Err(Failure::Usage("'--message-size' is an option of 'send'".into()))
+        }
+        Direction::Receive { file } => receive(&file, &options),
+        Direction::Send { .. } if options.force => Err(Failure::Usage("'--force' is an option of 'receive'".into())),
+        Direction::Send { id, file } => send(id, &file, &options),
     }
 }
 
-fn receive(arguments: &Arguments) -> Outcome {
-    let [_, file] = arguments.others(["'receive'", "FILE"])?;
-    let (file, replace) = (Path::new(file), arguments.has(FORCE));
-    let relay = Relay::of(arguments)?;
-    PartFile::check(file, replace).map_err(in_the_way)?;
-    let peer = relay.connect()?;
-    end_on_interrupt(&peer)?;
-    let (mut peer, length) = receive_at(peer, file, replace).map_err(|failure| match interrupt::asked() {
-        true => Failure::Failed("interrupted before the whole file had come".into()),
-        false => failure,
-    })?;
+fn receive(file: &Path, options: &Options) -> Outcome {
+    let port = options.partner_port()?;
+    PartFile::check(file, options.force).map_err(in_the_way)?;
+    let watch = Watch::start("interrupted before the whole file had come")?;
+    let peer = options.connect(port, &watch)?;
+    let (mut peer, length) = receive_at(peer, file, options).map_err(|failure| watch.explain(failure))?;
     confirm(&mut peer, length)
         .map_err(|error| Failure::Failed(format!("'{}' is complete, but {error}", file.display())))?;
     note(&format!("'{}' is complete", file.display()));
@@ -75,48 +124,44 @@ fn receive(arguments: &Arguments) -> Outcome {
 }
 
 /// Waits for a sender and writes its file, whose length it gives. The sender isn't told yet.
-fn receive_at(mut peer: Peer, file: &Path, replace: bool) -> Result<(Peer, u64), Failure> {
-    let mut part = PartFile::create(file, replace).map_err(|error| failed_at(file, error))?;
+fn receive_at(mut peer: Peer, file: &Path, options: &Options) -> Result<(Peer, u64), Failure> {
+    let mut part = PartFile::create(file, options.force).map_err(|error| failed_at(file, error))?;
     print_id(peer.lease().map_err(failed)?)?;
     note("waiting for a sender; the id is its first argument");
     await_session(&mut peer)?;
-    let mut meter = begin_meter();
-    let received = receive_contents(&mut peer, &mut part, |done, total| meter.update(done, total));
-    meter.end();
-    let length = received.map_err(failed)?;
+    let length = options.transfer(&mut peer, |peer, progress| receive_contents(peer, &mut part, progress))?;
     part.keep().map_err(|error| failed_at(file, error))?;
     Ok((peer, length))
 }
 
 fn await_session(peer: &mut Peer) -> Outcome {
-    let mut printed = Ok(());
+    let (closer, mut printed) = (peer.closer(), Ok(()));
     let waited = peer.await_session(|id| {
         note("the relay hasn't extended the lease; this is a new id, and the old one is of no use");
         printed = print_id(id);
+        if printed.is_err() {
+            // Nobody knows the id, so nobody will come.
+            closer.close();
+        }
     });
-    waited.map_err(failed)?;
-    printed
+    printed?;
+    waited.map_err(failed)
 }
 
-fn send(arguments: &Arguments) -> Outcome {
-    let [_, id, file] = arguments.others(["'send'", "ID", "FILE"])?;
-    let id = parse_id(&id.to_string_lossy())?;
-    let size = usize::from(arguments.number(SIZE, 1..=DATA_LIMIT as u16, MESSAGE_SIZE as u16)?);
-    let relay = Relay::of(arguments)?;
-    let (file, length) = open(Path::new(file))?;
-    let mut peer = relay.connect()?;
-    peer.establish(id).map_err(failed)?;
-    let mut meter = begin_meter();
-    let sent = send_contents(&mut peer, file, length, size, |done, total| meter.update(done, total));
-    meter.end();
-    sent.map_err(failed)?;
+fn send(id: u32, path: &Path, options: &Options) -> Outcome {
+    let port = options.partner_port()?;
+    let size = options.message_size.map_or(MESSAGE_SIZE, usize::from);
+    let (file, length) = open(path)?;
+    let watch = Watch::start("interrupted")?;
+    let mut peer = options.connect(port, &watch)?;
+    let sent = peer
+        .establish(id)
+        .map_err(failed)
+        .and_then(|()| options.transfer(&mut peer, |peer, progress| send_contents(peer, file, length, size, progress)));
+    sent.map_err(|failure| watch.explain(failure))?;
     note("the receiver has confirmed the whole file");
     finish(peer);
     Ok(())
-}
-
-fn parse_id(text: &str) -> Result<u32, Failure> {
-    text.parse().map_err(|_| usage(format!("ID is a number as 'receive' prints it, not '{text}'")))
 }
 
 /// A file to send, and its length.
@@ -131,35 +176,43 @@ fn open(path: &Path) -> Result<(File, u64), Failure> {
     Ok((file, length))
 }
 
-/// Where the partner's port is.
-struct Relay<'a> {
-    address: &'a str,
-    port: u16,
-}
-
-impl<'a> Relay<'a> {
-    fn of(arguments: &'a Arguments) -> Result<Self, Failure> {
-        let base_port = arguments.number("--base-port", 1..=HIGHEST_BASE_PORT, DEFAULT_BASE_PORT)?;
-        let partner = arguments.number("--partner", 0..=PARTNERS as u16 - 1, 0)?;
-        Ok(Self { address: arguments.text("--relay").unwrap_or("127.0.0.1"), port: base_port + partner })
+impl Options {
+    /// The port of the partner: told with the relay's address, or counted from that of partner 0.
+    fn partner_port(&self) -> Result<u16, Failure> {
+        match self.relay.port {
+            Some(_) if self.port.is_some() || self.partner.is_some() => Err(Failure::Usage(
+                "with a port in '--relay', which is the partner's, '--port' and '--partner' may not be given".into(),
+            )),
+            Some(port) => Ok(port),
+            None => Ok(self.port.unwrap_or(DEFAULT_BASE_PORT) + self.partner.unwrap_or(0)),
+        }
     }
 
-    fn connect(&self) -> Result<Peer, Failure> {
-        let Self { address, port } = *self;
-        Peer::connect((address, port)).map_err(|error| Failure::Failed(format!("{address} port {port}: {error}")))
+    /// Connects to the relay. From then on a signal closes the connection.
+    fn connect(&self, port: u16, watch: &Watch) -> Result<Peer, Failure> {
+        let host = self.relay.host.as_str();
+        let peer = Peer::connect((host, port));
+        let peer = peer.map_err(|error| Failure::Failed(format!("{host} port {port}: {error}")))?;
+        watch.connected(peer.closer());
+        Ok(peer)
     }
-}
 
-/// From now on an interrupt closes the connection, so that the receiver can tidy up before it ends.
-fn end_on_interrupt(peer: &Peer) -> Outcome {
-    let closer = peer.closer();
-    let watch = move || {
-        interrupt::wait();
-        closer.close();
-    };
-    thread::Builder::new().spawn(watch).map_err(|error| failed(Error::Thread(error)))?;
-    interrupt::watch();
-    Ok(())
+    /// Carries out a transfer in an established session: shows how far it is, and gives it up when it stands still.
+    fn transfer<T>(
+        &self,
+        peer: &mut Peer,
+        carry_out: impl FnOnce(&mut Peer, &mut dyn FnMut(u64, u64)) -> Result<T, Error>,
+    ) -> Result<T, Failure> {
+        let limit = self.timeout.map(|seconds| Duration::from_secs(seconds.into()));
+        let stall = StallWatch::start(limit, peer.closer()).map_err(failed)?;
+        let mut meter = begin_meter();
+        let outcome = carry_out(peer, &mut |done, total| {
+            stall.progress();
+            meter.update(done, total);
+        });
+        meter.end();
+        outcome.map_err(|error| stall.explain(failed(error)))
+    }
 }
 
 /// The id alone on a line of stdout, for a script to read.
@@ -189,7 +242,7 @@ fn failed_at(path: &Path, error: Error) -> Failure {
 
 fn in_the_way(error: Error) -> Failure {
     match error {
-        Error::Exists(_) => usage(format!("{error}; {FORCE} replaces it")),
-        _ => usage(error.to_string()),
+        Error::Exists(_) => Failure::Usage(format!("{error}; '--force' replaces it")),
+        _ => Failure::Usage(error.to_string()),
     }
 }

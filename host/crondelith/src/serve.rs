@@ -1,54 +1,126 @@
 //! `crondelith serve`: the relay, until it is interrupted.
 
-use std::net::Ipv4Addr;
+use std::net::{IpAddr, SocketAddr};
+use std::path::PathBuf;
+use std::thread;
+use std::time::SystemTime;
 
-use server::{bind, Listeners, Log, LogFormat, Server, Settings, SystemClock, PARTNERS};
+use clap::{value_parser, Args, ValueEnum};
+use serde_json::{json, Value};
+use server::{bind, Log, LogFormat, Server, Settings, SystemClock, PARTNERS};
 
-use crate::arguments::{Arguments, Known};
+use crate::output::write_line;
+use crate::signals::Signals;
 use crate::{note, Failure, Outcome};
 
 pub const DEFAULT_BASE_PORT: u16 = 7700;
 /// The highest from which each partner has a port.
 pub const HIGHEST_BASE_PORT: u16 = u16::MAX - (PARTNERS as u16 - 1);
 
-pub const HELP: &str = "\
-usage: crondelith serve [--base-port N]
+const ABOUT: &str = "\
+Runs the relay until it is interrupted (Ctrl-C), one port per partner.";
 
-Runs the relay on 127.0.0.1 until it is interrupted (Ctrl-C), one port per partner.
+const DETAILS: &str = "\
+The protocol is SVSC of the ScreenView paper over TCP: frames of a two-byte length, which counts
+the type byte, type 1 and a message. A partner has eight connections, and an allowance of 262,144
+that refills by 65,536 each second; a message costs 32 and its length. The protocol has no message
+for a refusal, so this is what follows from one:
 
-  --base-port N   the port of partner 0; partner p has port N + p (default 7700)
-
-The protocol is SVSC of the ScreenView paper over TCP: frames of a two-byte length, which counts the type byte, type 1
-and a message. A partner has eight connections, and an allowance of 262,144 that refills by 65,536 each second; a
-message costs 32 and its length. The protocol has no message for a refusal, so this is what follows from one:
-
-  allowance used up (9)      the message waits for the refill, and nothing more is read from its connection meanwhile
+  allowance used up (9)      the message waits for the refill, and nothing more is read from its
+                             connection meanwhile
   no session (8)             the message is dropped
   malformed (6), or not
   permitted then (7)         the connection is closed
   a ninth connection         is closed at once
 
-Each has a log line on stderr; repeated lines are summed up every 5 seconds. At most some 256 KiB wait for a connection
-that reads slowly: beyond that its senders wait too. One that reads next to nothing for 30 seconds is closed.
-";
+Each has a log line on stderr; repeated lines are summed up every 5 seconds. At most some 256 KiB
+wait for a connection that reads slowly: beyond that its senders wait too. One that reads next to
+nothing for 30 seconds is closed.
 
-pub const OPTIONS: [Known; 1] = [Known { name: "--base-port", has_value: true }];
+SIGINT (Ctrl-C), SIGTERM and SIGHUP end the relay in order; a second Ctrl-C or SIGTERM ends it at
+once. Under nohup, SIGHUP is ignored.
 
-pub fn run(arguments: Arguments) -> Outcome {
-    arguments.others([])?;
-    let base_port = arguments.number("--base-port", 1..=HIGHEST_BASE_PORT, DEFAULT_BASE_PORT)?;
-    interrupt::watch();
-    let server = bind(&[Ipv4Addr::LOCALHOST.into()], base_port)
-        .and_then(start)
-        .map_err(|error| Failure::Failed(error.to_string()))?;
-    for (partner, address) in server.addresses().iter().enumerate() {
-        note(&format!("partner {partner} at {address}"));
-    }
-    note("the relay runs; Ctrl-C ends it");
-    interrupt::wait();
-    server.stop().map(drop).map_err(|error| Failure::Failed(error.to_string()))
+The exit status is 0 if the relay has run and ended in order, 1 if it couldn't run or was ended at
+once, and 2 if the arguments are wrong.";
+
+/// Run the relay on this machine, one port per partner
+#[derive(Args)]
+#[command(long_about = ABOUT, after_long_help = DETAILS)]
+pub struct Arguments {
+    /// An IPv4 or IPv6 address to listen on; may be repeated
+    #[arg(long, value_name = "ADDRESS", default_value = "127.0.0.1")]
+    listen: Vec<IpAddr>,
+
+    /// The port of partner 0, 1 to 65528;
+    /// partner p has port N + p
+    #[arg(long, visible_alias = "base-port", verbatim_doc_comment, value_name = "N",
+        default_value_t = DEFAULT_BASE_PORT,
+        value_parser = value_parser!(u16).range(1..=i64::from(HIGHEST_BASE_PORT)))]
+    port: u16,
+
+    /// A file that keeps the relay's tables from one run to the next
+    /// [default: none]
+    #[arg(long, verbatim_doc_comment, value_name = "FILE")]
+    state: Option<PathBuf>,
+
+    /// How the lines on stderr look; one of JSON
+    /// has its time and event
+    #[arg(long, verbatim_doc_comment, value_name = "FORMAT", default_value = "text")]
+    log: Format,
 }
 
-fn start(listeners: Listeners) -> std::io::Result<Server> {
-    Server::start(listeners, Settings::new(SystemClock::new(), Log::new(LogFormat::Text, note)))
+#[derive(Clone, Copy, ValueEnum)]
+enum Format {
+    Text,
+    Json,
+}
+
+impl From<Format> for LogFormat {
+    fn from(format: Format) -> Self {
+        match format {
+            Format::Text => Self::Text,
+            Format::Json => Self::Json,
+        }
+    }
+}
+
+pub fn run(arguments: Arguments) -> Outcome {
+    let mut signals = Signals::register()?;
+    let Arguments { listen, port, state, log } = arguments;
+    let settings = Settings { state, ..Settings::new(SystemClock::new(), Log::new(log.into(), write_line)) };
+    let server = bind(&listen, port).and_then(|listeners| Server::start(listeners, settings));
+    let server = server.map_err(|error| Failure::Failed(error.to_string()))?;
+    for (partner, address) in places(&listen, port) {
+        log.tell(
+            &format!("partner {partner} at {address}"),
+            json!({ "event": "listening", "partner": partner, "address": address.to_string() }),
+        );
+    }
+    log.tell("the relay runs; Ctrl-C ends it", json!({ "event": "running" }));
+    let stopper = server.stopper();
+    thread::spawn(move || {
+        signals.wait();
+        stopper.stop();
+    });
+    // It also ends if the relay fails.
+    server.join().map(drop).map_err(|error| Failure::Failed(error.to_string()))
+}
+
+/// Each partner with each of its addresses.
+fn places(listen: &[IpAddr], port: u16) -> impl Iterator<Item = (u16, SocketAddr)> + '_ {
+    let of_partner = move |partner| listen.iter().map(move |address| (partner, (*address, port + partner).into()));
+    (0..PARTNERS as u16).flat_map(of_partner)
+}
+
+impl Format {
+    /// A line of the program's own beside those of the relay, as text or as an event.
+    fn tell(self, text: &str, mut event: Value) {
+        match self {
+            Self::Text => note(text),
+            Self::Json => {
+                event["time"] = humantime::format_rfc3339_millis(SystemTime::now()).to_string().into();
+                write_line(&event.to_string());
+            }
+        }
+    }
 }

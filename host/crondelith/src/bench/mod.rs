@@ -8,23 +8,40 @@ mod measure;
 pub mod peers;
 mod relays;
 
-use crate::arguments::{Arguments, Known};
+use clap::Args;
+
+use crate::signals::Watch;
 use crate::{say, Failure, Outcome};
 use measure::{Comparison, Medians};
 
-pub const HELP: &str = "\
-usage: crondelith bench
+const ABOUT: &str = "\
+Measures the proved engine, each time beside something that does the same work.";
 
-Measures the proved engine, each time beside something that does the same work.
-
-Prints a Markdown table. A row has the nanoseconds that one repetition takes of the engine and of the other side, which
-is the second implementation unless the row says otherwise, and their ratio: below 1 the engine is faster. Both sides
-are measured in turn, batch by batch, and the median batch counts. Every answer is checked, and after every batch the
-bytes that both sides left. The last row is the whole relay over TCP on this machine, beside a loop that copies from
-one socket to another; its clock jumps, so that nobody waits for an allowance.
+const DETAILS: &str = "\
+Prints a Markdown table. A row has the nanoseconds that one repetition takes of the engine and of
+the other side, which is the second implementation unless the row says otherwise, and their ratio:
+below 1 the engine is faster. Both sides are measured in turn, batch by batch, and the median batch
+counts. Every answer is checked, and after every batch the bytes that both sides left. The last row
+is the whole relay over TCP on this machine, beside a loop that copies from one socket to another;
+its clock jumps, so that nobody waits for an allowance.
 
 It takes some ten seconds, and is meant for a machine with nothing else to do.
-";
+
+The exit status is 0 if all was measured, 1 if not, also when interrupted before (Ctrl-C), and 2 if
+the arguments are wrong.";
+
+/// Measure the proved engine beside the second implementation and plain copies
+#[derive(Args)]
+#[command(long_about = ABOUT, after_long_help = DETAILS)]
+pub struct Arguments {
+    /// Measure the relay beside haproxy, nginx and socat instead
+    #[arg(long)]
+    peers: bool,
+
+    /// Only show that all is in order; the figures mean nothing
+    #[arg(long, hide = true)]
+    brief: bool,
+}
 
 /// Rows, and what is hoped of them, if anything.
 struct Section {
@@ -68,12 +85,9 @@ impl Section {
 /// The sections, in the table's order.
 const SECTIONS: [fn() -> Result<Section, Failure>; 3] = [calls::section, copy::section, loopback::section];
 
-pub const OPTIONS: [Known; 2] =
-    [Known { name: "--peers", has_value: false }, Known { name: "--brief", has_value: false }];
-
 pub fn run(arguments: Arguments) -> Outcome {
-    arguments.others([])?;
-    measure(arguments.has("--peers"), arguments.has("--brief"))
+    Watch::start("interrupted")?;
+    measure(arguments.peers, arguments.brief)
 }
 
 /// Measures the engine, or the relay beside others; the latter briefly if only to show that all is in order.

@@ -1,0 +1,17 @@
+//! Lines on stdout and stderr. That nobody reads them any more is no reason to fail.
+
+use std::fmt::Display;
+use std::io::{stderr, stdout, Write};
+
+pub fn say(line: impl Display) {
+    let _ = writeln!(stdout(), "{line}");
+}
+
+pub fn note(line: &str) {
+    write_line(&format!("crondelith: {line}"));
+}
+
+/// A line on stderr as it is, in one write, so that lines of several threads or programs don't mix.
+pub fn write_line(line: &str) {
+    let _ = stderr().write_all(format!("{line}\n").as_bytes());
+}

@@ -1,0 +1,9 @@
+//! The program as its users see it: what it prints, its exit statuses, a file through a relay, the signals.
+
+mod arguments;
+mod demo;
+mod outputs;
+mod serve;
+mod signals;
+mod support;
+mod transfer;
