@@ -20,7 +20,7 @@ usage: crondelith COMMAND [OPTIONS]
   serve   run the relay on this machine, one port per partner
   peer    receive or send a file through a relay
   demo    one partner floods a relay while another sends a file through it
-  bench   the proved engine beside the second implementation and plain copies
+  bench   the proved engine beside the second implementation and plain copies, or the relay beside others
 
 'crondelith COMMAND --help' tells about a command.
 ";

@@ -1,4 +1,5 @@
-//! `crondelith bench`: the engine measured side by side with the second implementation and with plain copies.
+//! `crondelith bench`: the engine measured side by side with the second implementation and with plain copies, or the
+//! whole relay with other relays.
 
 mod calls;
 mod cases;
@@ -13,7 +14,7 @@ use crate::{say, Failure, Outcome};
 use measure::{Comparison, Medians};
 
 pub const HELP: &str = "\
-usage: crondelith bench
+usage: crondelith bench [--peers]
 
 Measures the proved engine, each time beside something that does the same work.
 
@@ -23,7 +24,19 @@ are measured in turn, batch by batch, and the median batch counts. Every answer 
 bytes that both sides left. The last row is the whole relay over TCP on this machine, beside a loop that copies from
 one socket to another; its clock jumps, so that nobody waits for an allowance.
 
-It takes some ten seconds, and is meant for a machine with nothing else to do.
+  --peers   measures the whole relay instead, beside haproxy (TCP mode), nginx (stream) and socat
+
+With --peers each relay is a process of its own, and those that aren't installed are left out. The same frames go
+through all: ours hands them on from one connection of a partner to another in session, the others from a connection to
+one that they open. Counts and samples of what comes out are checked. A figure is the median of seven runs of each relay
+in turn, but CPU seconds are of all of these together and memory is of one; a relay that fails has '-'. A connection's
+memory is what is resident beyond a relay that has just started, with 64 connections idle, and with 32 links of which
+both ends send messages of 16 KiB at once. Our relay's clock jumps, except where a row says 'as in production'.
+
+The second table is of a partner that makes a round trip every 4 ms, by itself and while the seven others send as fast
+as they can from 56 connections. What sends the flood shares the machine's cores with the relay.
+
+Either takes its time, some ten seconds or two minutes, and is meant for a machine with nothing else to do.
 ";
 
 /// Rows, and what is hoped of them, if anything.

@@ -10,7 +10,7 @@ use std::io::{self, BufRead, BufReader};
 use std::os::unix::process::CommandExt;
 use std::process::{Child, ChildStdout, Command, Stdio};
 
-use rustix::process::{kill_current_process_group, kill_process_group, Pid, Signal};
+use rustix::process::{getpgrp, getpid, kill_current_process_group, kill_process_group, Pid, Signal};
 use server::{bind_free, Clock, JumpingClock, Log, LogFormat, Server, Settings, SystemClock, PARTNERS};
 
 use super::usage;
@@ -55,8 +55,12 @@ impl Process {
 
     fn total(&self, of_one: fn(u32) -> io::Result<f64>) -> io::Result<f64> {
         let leader = self.leader.id();
-        let members = usage::group(leader)?;
-        members.into_iter().filter(|member| self.leader_counts || *member != leader).map(of_one).sum()
+        let mut members = usage::group(leader)?;
+        members.retain(|member| self.leader_counts || *member != leader);
+        if members.is_empty() {
+            return Err(io::Error::other("the relay has ended"));
+        }
+        members.into_iter().map(|member| usage::unless_ended(of_one(member))).sum()
     }
 }
 
@@ -97,6 +101,9 @@ fn serve(clock: impl Clock + 'static) -> io::Result<()> {
 
 /// Runs a program, and ends it with all that it has started, and itself with them.
 fn guard(program: &OsStr, arguments: &[OsString]) -> io::Result<()> {
+    if getpgrp() != getpid() {
+        return Err(io::Error::other("others would end as well: this process doesn't lead its group"));
+    }
     Command::new(program).args(arguments).stdin(Stdio::null()).spawn()?;
     await_end_of_input()?;
     kill_current_process_group(Signal::Kill)?;
