@@ -44,7 +44,7 @@ fn main() -> ExitCode {
         Some("peer") => with_arguments(peer::HELP, &peer::OPTIONS, rest, peer::run),
         Some("demo") => with_arguments(demo::HELP, &[], rest, demo::run),
         Some("bench") => with_arguments(bench::HELP, &bench::OPTIONS, rest, bench::run),
-        Some(bench::peers::WORD) => bench::peers::run_process(&rest),
+        Some(bench::peers::WORD) => bench::peers::run_child(&rest),
         Some("--help" | "-h" | "help") => {
             say(HELP.trim_end());
             Ok(())

@@ -2,6 +2,7 @@
 
 use std::io::{BufRead, BufReader, Read};
 use std::os::unix::process::CommandExt;
+use std::path::Path;
 use std::process::{Child, Command, Stdio};
 use std::time::{Duration, Instant};
 use std::{fs, thread};
@@ -65,10 +66,14 @@ fn a_relay_ends_with_its_input() {
 fn a_guarded_program_ends_with_the_input_of_its_guard() {
     // A time that no other process sleeps.
     let time = "86399.125";
-    let mut guard = start(&["guard", "sh", "-c", &format!("echo begun; sleep {time}")]);
+    let folder = Path::new(env!("CARGO_TARGET_TMPDIR")).join("guarded");
+    fs::create_dir_all(&folder).expect("a folder for the test");
+    let path = folder.to_str().expect("a path");
+    let mut guard = start(&["guard", path, "sh", "-c", &format!("echo begun; sleep {time}")]);
     let mut begun = [0; 6];
     guard.stdout.take().expect("its output").read_exact(&mut begun).expect("its first line");
     drop(guard.stdin.take());
     guard.wait().expect("an end");
     await_end(time);
+    assert!(!folder.exists(), "its folder is left");
 }

@@ -86,11 +86,11 @@ pub const OPTIONS: [Known; 2] =
 
 pub fn run(arguments: Arguments) -> Outcome {
     arguments.others([])?;
-    measure(arguments.has("--peers"), arguments.has("--brief"))
+    run_with(arguments.has("--peers"), arguments.has("--brief"))
 }
 
 /// Measures the engine, or the relay beside others; the latter briefly if only to show that all is in order.
-fn measure(peers: bool, brief: bool) -> Outcome {
+pub fn run_with(peers: bool, brief: bool) -> Outcome {
     if cfg!(debug_assertions) {
         say("This is a debug build: its numbers mean nothing.\n");
     }

@@ -7,9 +7,9 @@ use std::time::{Duration, Instant};
 use codec::Message;
 
 use super::batch::frame;
+use super::child::{JUMPING, SYSTEM};
 use super::effort::Effort;
 use super::flood::Flood;
-use super::process::{JUMPING, SYSTEM};
 use super::programs::Program;
 use super::proxies::REFERENCE;
 use super::relay::Relay;

@@ -13,7 +13,7 @@ use server::CONNECTIONS_EACH;
 use tempfile::TempDir;
 
 use super::link::{prepare, Link, WAIT};
-use super::process::{self, Process};
+use super::process::Process;
 use super::programs::Program;
 use super::proxies::{Ports, Proxy};
 
@@ -58,8 +58,8 @@ impl Relay {
     }
 
     fn start_ours(clock: &str) -> io::Result<Self> {
-        let (process, output) = Process::serve(clock)?;
-        Ok(Self { process, route: Route::Partners(process::addresses(output)?) })
+        let (process, addresses) = Process::serve(clock)?;
+        Ok(Self { process, route: Route::Partners(addresses) })
     }
 
     fn start_proxy(proxy: &Proxy, path: &Path) -> io::Result<Self> {
@@ -68,7 +68,7 @@ impl Relay {
         let listener = listen()?;
         let ports = Ports { from: free_port()?, to: listener.local_addr()?.port() };
         let arguments = (proxy.arguments)(&ports, folder.path())?;
-        let process = Process::guard(path.as_os_str(), &arguments, File::create(&log)?)?;
+        let process = Process::guard(folder.path(), path, &arguments, File::create(&log)?)?;
         let listens = poll(|| super::usage::listens(ports.from).then_some(()));
         listens.ok_or_else(|| io::Error::other(format!("not started: {}", last_line(&log))))?;
         let address = (Ipv4Addr::LOCALHOST, ports.from).into();
