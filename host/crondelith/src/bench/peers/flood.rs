@@ -42,6 +42,11 @@ impl Flood {
         }
         Ok(())
     }
+
+    /// Whether all of it still goes on: a relay that closes its connections isn't flooded.
+    pub fn goes_on(&self) -> bool {
+        !self.threads.iter().any(JoinHandle::is_finished)
+    }
 }
 
 impl Drop for Flood {

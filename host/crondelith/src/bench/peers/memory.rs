@@ -12,6 +12,7 @@ use super::process::Process;
 use super::programs::Program;
 use super::relay::Relay;
 use super::report::{Bound, Row};
+use super::threads::joined;
 use super::throughput::transfer;
 use super::turns::{in_turn, median, Named};
 
@@ -67,8 +68,7 @@ fn busy(program: &Program, effort: &Effort) -> io::Result<f64> {
         };
         let transfers = both.map(start).collect::<io::Result<Vec<_>>>()?;
         let peak = peak(&relay.process, &transfers)?;
-        let ended = |transfer: ScopedJoinHandle<_>| transfer.join().unwrap_or(Err(io::ErrorKind::Other.into()));
-        transfers.into_iter().try_for_each(ended).map(|()| peak)
+        transfers.into_iter().try_for_each(joined).map(|()| peak)
     })?;
     Ok((peak - before) / CONNECTIONS as f64)
 }

@@ -86,8 +86,8 @@ fn run(scene: &Scene, effort: &Effort) -> io::Result<Run> {
     let (start, before) = (Instant::now(), relay.process.cpu_seconds()?);
     let flooded = round_trip::measure(&link, effort.quiet_round_trips, PACE)?;
     let cpu = (relay.process.cpu_seconds()? - before) / start.elapsed().as_secs_f64() * 100.0;
-    drop(flood);
-    Ok(Run { idle, flooded, cpu })
+    let run = Run { idle, flooded, cpu };
+    flood.goes_on().then_some(run).ok_or_else(|| io::Error::other("connections of the flood were closed"))
 }
 
 const HEAD: [&str; 11] = [

@@ -10,6 +10,7 @@ use super::effort::Effort;
 use super::link::Link;
 use super::relay::{started, Started};
 use super::report::{Bound, Row};
+use super::threads::joined;
 use super::turns::{in_turn, median, Named};
 
 const DATA_LENGTH: usize = 64;
@@ -42,7 +43,7 @@ pub fn measure(link: &Link, count: usize, pace: Duration) -> io::Result<Percenti
         if times.is_err() {
             link.shut_down();
         }
-        let echoed = echo.join().unwrap_or(Err(io::ErrorKind::Other.into()));
+        let echoed = joined(echo);
         times.and_then(|times| echoed.map(|()| times))
     })?;
     percentiles(times).ok_or(io::ErrorKind::InvalidInput.into())

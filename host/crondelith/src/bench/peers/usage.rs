@@ -57,14 +57,3 @@ fn stat(process: u32) -> io::Result<Vec<String>> {
     let (_, fields) = text.rsplit_once(')').ok_or(io::ErrorKind::InvalidData)?;
     Ok(fields.split_whitespace().map(str::to_owned).collect())
 }
-
-/// Whether something listens at this port of 127.0.0.1. A connection to try it would be handed on.
-pub fn listens(port: u16) -> bool {
-    let address = format!("{:08X}:{port:04X}", u32::from_ne_bytes([127, 0, 0, 1]));
-    let sockets = fs::read_to_string("/proc/net/tcp").unwrap_or_default();
-    let is_it = |line: &str| {
-        let mut fields = line.split_whitespace().skip(1);
-        fields.next() == Some(&address) && fields.nth(1) == Some("0A")
-    };
-    sockets.lines().any(is_it)
-}
