@@ -59,7 +59,7 @@ fn main() -> ExitCode {
         Command::Peer(arguments) => peer::run(arguments),
         Command::Demo(arguments) => demo::run(arguments),
         Command::Bench(arguments) => bench::run(arguments),
-        Command::BenchRelay { words } => bench::peers::run_process(&words),
+        Command::BenchRelay { words } => bench::peers::run_child(&words),
     };
     match outcome {
         Ok(()) => ExitCode::SUCCESS,

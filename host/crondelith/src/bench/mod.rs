@@ -1,4 +1,5 @@
-//! `crondelith bench`: the engine measured side by side with the second implementation and with plain copies.
+//! `crondelith bench`: the engine measured side by side with the second implementation and with plain copies, or the
+//! whole relay with other relays.
 
 mod calls;
 mod cases;
@@ -25,7 +26,19 @@ counts. Every answer is checked, and after every batch the bytes that both sides
 is the whole relay over TCP on this machine, beside a loop that copies from one socket to another;
 its clock jumps, so that nobody waits for an allowance.
 
-It takes some ten seconds, and is meant for a machine with nothing else to do.
+With --peers each relay is a process of its own, and those that aren't installed are left out. The
+same frames go through all: ours hands them on from one connection of a partner to another in
+session, the others from a connection to one that they open. Counts and samples of what comes out
+are checked. A figure is the median of seven runs of each relay in turn, but CPU seconds are of all
+of these together and memory is of one; a relay that fails has '-'. A connection's memory is what is
+resident beyond a relay that has just started, with 64 connections idle, and with 32 links of which
+both ends send messages of 16 KiB at once. Our relay's clock jumps, except where a row says 'as in
+production'. The second table is of a partner that makes a round trip every 4 ms, by itself and
+while the seven others send as fast as they can from 56 connections. What sends the flood shares the
+machine's cores with the relay.
+
+Either takes its time, some ten seconds or two minutes, and is meant for a machine with nothing else
+to do.
 
 The exit status is 0 if all was measured, 1 if not, also when interrupted before (Ctrl-C), and 2 if
 the arguments are wrong.";
@@ -87,11 +100,11 @@ const SECTIONS: [fn() -> Result<Section, Failure>; 3] = [calls::section, copy::s
 
 pub fn run(arguments: Arguments) -> Outcome {
     Watch::start("interrupted")?;
-    measure(arguments.peers, arguments.brief)
+    run_with(arguments.peers, arguments.brief)
 }
 
 /// Measures the engine, or the relay beside others; the latter briefly if only to show that all is in order.
-fn measure(peers: bool, brief: bool) -> Outcome {
+pub fn run_with(peers: bool, brief: bool) -> Outcome {
     if cfg!(debug_assertions) {
         say("This is a debug build: its numbers mean nothing.\n");
     }

@@ -67,3 +67,33 @@ pub fn frame(message: &Message) -> io::Result<Vec<u8>> {
 fn varied(length: usize) -> Vec<u8> {
     (0..length as u32).map(|place| (place.wrapping_mul(2_654_435_761) >> 24) as u8).collect()
 }
+
+#[cfg(test)]
+mod tests {
+    use super::*;
+
+    /// More than one batch, as it comes out of a proxy, and how many bytes that are.
+    fn repeated(batch: &Batch) -> (Vec<u8>, u64) {
+        (batch.delivered.repeat(2), batch.length() * 2)
+    }
+
+    #[test]
+    fn what_comes_out_agrees_wherever_it_is_cut() {
+        let batch = Batch::new(64, |data| Message::DataSend { data }).expect("a batch");
+        let (bytes, total) = repeated(&batch);
+        for cut in [1, 68, 1_000, 65_484, 65_485, 130_000] {
+            let (first, second) = bytes.split_at(cut);
+            assert!(batch.agrees(first, 0, total) && batch.agrees(second, cut as u64, total), "cut at {cut}");
+        }
+    }
+
+    #[test]
+    fn a_wrong_byte_and_a_lost_frame_are_noticed() {
+        let batch = Batch::new(64, |data| Message::DataReceive { data }).expect("a batch");
+        let (mut bytes, total) = repeated(&batch);
+        assert!(!batch.agrees(&batch.sent, 0, total), "the type as it was sent");
+        assert!(!batch.agrees(&bytes[136..], 68, total), "a frame too few");
+        *bytes.last_mut().expect("bytes") ^= 1;
+        assert!(!batch.agrees(&bytes[68..], 68, total), "the last byte");
+    }
+}

@@ -2,7 +2,6 @@
 
 use std::io::{self, Read, Write};
 use std::net::{Shutdown, TcpStream};
-use std::sync::atomic::{AtomicU64, Ordering};
 use std::sync::Arc;
 use std::thread::{self, JoinHandle};
 
@@ -17,17 +16,17 @@ const BLOCK: usize = 65_536;
 pub struct Flood {
     streams: Vec<TcpStream>,
     threads: Vec<JoinHandle<()>>,
-    bytes: Arc<AtomicU64>,
 }
 
 impl Flood {
     /// Starts one that repeats the frame. What comes out of a proxy is read and dropped.
     pub fn start(relay: &Relay, frame: &[u8]) -> io::Result<Self> {
         let block: Arc<[u8]> = frame.repeat(BLOCK / frame.len()).into();
-        let mut flood = Self { streams: Vec::new(), threads: Vec::new(), bytes: Arc::default() };
-        for number in CONNECTIONS_EACH..PARTNERS * CONNECTIONS_EACH {
-            flood.add(relay.connect(number)?, &block)?;
-        }
+        // All first: what opens a connection would wait behind the flood for its partner's allowance.
+        let numbers = CONNECTIONS_EACH..PARTNERS * CONNECTIONS_EACH;
+        let connections = numbers.map(|number| relay.connect(number)).collect::<io::Result<Vec<_>>>()?;
+        let mut flood = Self { streams: Vec::new(), threads: Vec::new() };
+        connections.into_iter().try_for_each(|connection| flood.add(connection, &block))?;
         Ok(flood)
     }
 
@@ -35,8 +34,8 @@ impl Flood {
         // A relay may let it wait; the end of the flood ends that.
         near.set_write_timeout(None)?;
         self.streams.push(near.try_clone()?);
-        let (block, bytes) = (Arc::clone(block), Arc::clone(&self.bytes));
-        self.threads.push(thread::Builder::new().spawn(move || send(&near, &block, &bytes))?);
+        let block = Arc::clone(block);
+        self.threads.push(thread::Builder::new().spawn(move || send(&near, &block))?);
         if let Some(far) = far {
             self.streams.push(far.try_clone()?);
             self.threads.push(thread::Builder::new().spawn(move || drain(&far))?);
@@ -44,9 +43,9 @@ impl Flood {
         Ok(())
     }
 
-    /// How many have been sent so far.
-    pub fn bytes(&self) -> u64 {
-        self.bytes.load(Ordering::Relaxed)
+    /// Whether all of it still goes on: a relay that closes its connections isn't flooded.
+    pub fn goes_on(&self) -> bool {
+        !self.threads.iter().any(JoinHandle::is_finished)
     }
 }
 
@@ -62,10 +61,8 @@ impl Drop for Flood {
     }
 }
 
-fn send(mut stream: &TcpStream, block: &[u8], bytes: &AtomicU64) {
-    while stream.write_all(block).is_ok() {
-        bytes.fetch_add(block.len() as u64, Ordering::Relaxed);
-    }
+fn send(mut stream: &TcpStream, block: &[u8]) {
+    while stream.write_all(block).is_ok() {}
 }
 
 fn drain(mut stream: &TcpStream) {

@@ -12,6 +12,7 @@ use super::process::Process;
 use super::programs::Program;
 use super::relay::Relay;
 use super::report::{Bound, Row};
+use super::threads::joined;
 use super::throughput::transfer;
 use super::turns::{in_turn, median, Named};
 
@@ -26,24 +27,23 @@ const SAMPLE: Duration = Duration::from_millis(10);
 const GREATEST_IDLE_KIB: f64 = 16.0;
 const GREATEST_BUSY_KIB: f64 = 200.0;
 
+/// KiB for each connection of a relay.
+type Measure = fn(&Program, &Effort) -> io::Result<f64>;
+
 pub fn rows(programs: &[Program], effort: &Effort) -> Vec<Row> {
     let subjects: Vec<Named<&Program>> = programs.iter().map(|program| (program.name(), program)).collect();
-    let row = |what: String, bound, measure: &dyn Fn(&&Program) -> io::Result<f64>| {
-        let outcomes = in_turn(&subjects, effort.memory_runs, measure);
+    let row = |what: String, bound, measure: Measure| {
+        let outcomes = in_turn(&subjects, effort.memory_runs, |program| measure(program, effort));
         let figures = outcomes.iter().map(|outcome| median(outcome.as_ref(), |kib| *kib)).collect();
         Row { what, digits: 1, figures, bound: Some(Bound::AtMost(bound)) }
     };
     vec![
-        row(format!("KiB for each of {CONNECTIONS} idle connections"), GREATEST_IDLE_KIB, &|program| idle(program)),
-        row(
-            format!("KiB for each of {CONNECTIONS} busy ends of connections, at the peak"),
-            GREATEST_BUSY_KIB,
-            &|program| busy(program, effort.busy),
-        ),
+        row(format!("KiB for each of {CONNECTIONS} idle connections"), GREATEST_IDLE_KIB, idle),
+        row(format!("KiB for each of {CONNECTIONS} busy ends of connections, at the peak"), GREATEST_BUSY_KIB, busy),
     ]
 }
 
-fn idle(program: &Program) -> io::Result<f64> {
+fn idle(program: &Program, _: &Effort) -> io::Result<f64> {
     let relay = Relay::start(program)?;
     let before = relay.process.resident_kib()?;
     let connections = (0..CONNECTIONS).map(|number| relay.connect(number)).collect::<io::Result<Vec<_>>>()?;
@@ -53,7 +53,7 @@ fn idle(program: &Program) -> io::Result<f64> {
 }
 
 /// Both ends of each link send as fast as they can, and receive.
-fn busy(program: &Program, time: Duration) -> io::Result<f64> {
+fn busy(program: &Program, effort: &Effort) -> io::Result<f64> {
     let relay = Relay::start(program)?;
     let before = relay.process.resident_kib()?;
     let links = (0..LINKS).map(|number| relay.link(number)).collect::<io::Result<Vec<_>>>()?;
@@ -64,12 +64,11 @@ fn busy(program: &Program, time: Duration) -> io::Result<f64> {
         .flat_map(|(link, batch)| [(&link.near, &link.far, batch), (&link.far, &link.near, batch)]);
     let peak = thread::scope(|scope| {
         let start = |(from, to, batch)| {
-            thread::Builder::new().spawn_scoped(scope, move || transfer(from, to, batch, time).map(|_| ()))
+            thread::Builder::new().spawn_scoped(scope, move || transfer(from, to, batch, effort.busy).map(|_| ()))
         };
         let transfers = both.map(start).collect::<io::Result<Vec<_>>>()?;
         let peak = peak(&relay.process, &transfers)?;
-        let ended = |transfer: ScopedJoinHandle<_>| transfer.join().unwrap_or(Err(io::ErrorKind::Other.into()));
-        transfers.into_iter().try_for_each(ended).map(|()| peak)
+        transfers.into_iter().try_for_each(joined).map(|()| peak)
     })?;
     Ok((peak - before) / CONNECTIONS as f64)
 }

@@ -2,9 +2,11 @@
 //! own. What is sent and received, and both ends of every connection, are this process's.
 
 mod batch;
+mod child;
 mod effort;
 mod flood;
 mod link;
+mod listening;
 mod memory;
 mod process;
 mod programs;
@@ -13,11 +15,12 @@ mod quiet;
 mod relay;
 mod report;
 mod round_trip;
+mod threads;
 mod throughput;
 mod turns;
 mod usage;
 
-pub use process::{run as run_process, WORD};
+pub use child::{run as run_child, WORD};
 
 use std::thread;
 use std::time::Duration;
@@ -39,6 +42,9 @@ pub fn run(brief: bool) -> Outcome {
         note("bench: still not done, given up");
         std::process::exit(1);
     });
+    if !brief {
+        note("bench: this takes some two minutes");
+    }
     let programs = programs::installed();
     let mut rows = speed(&programs, effort);
     rows.extend(memory::rows(&programs, effort));

@@ -3,7 +3,7 @@
 use std::env;
 use std::path::{Path, PathBuf};
 
-use super::process::JUMPING;
+use super::child::JUMPING;
 use super::proxies::{self, Proxy};
 use crate::say;
 

@@ -7,9 +7,9 @@ use std::time::{Duration, Instant};
 use codec::Message;
 
 use super::batch::frame;
+use super::child::{JUMPING, SYSTEM};
 use super::effort::Effort;
 use super::flood::Flood;
-use super::process::{JUMPING, SYSTEM};
 use super::programs::Program;
 use super::proxies::REFERENCE;
 use super::relay::Relay;
@@ -17,8 +17,8 @@ use super::report::{cell, print_table, ratio, Aim, Bound};
 use super::round_trip::{self, Percentiles};
 use super::turns::{in_turn, median, Named};
 
-/// Between round trips: so many fit into the partner's allowance.
-const PAUSE: Duration = Duration::from_millis(4);
+/// From one round trip to the next: so many fit into the partner's allowance.
+const PACE: Duration = Duration::from_millis(4);
 /// By then the others' allowances are used up.
 const FLOOD_LEAD: Duration = Duration::from_millis(300);
 const GREATEST_RATIO: f64 = 2.0;
@@ -31,11 +31,11 @@ struct Scene {
     message: Message<'static>,
 }
 
-/// Microseconds, and the flood's megabytes in a second.
 struct Run {
     idle: Percentiles,
     flooded: Percentiles,
-    flood: f64,
+    /// What the relay used of a core under the flood, in percent.
+    cpu: f64,
 }
 
 /// The medians of a scene's runs.
@@ -43,7 +43,7 @@ pub struct Row {
     what: &'static str,
     idle: [Option<f64>; 3],
     flooded: [Option<f64>; 3],
-    flood: Option<f64>,
+    cpu: Option<f64>,
 }
 
 /// Production's row, which counts, is the first.
@@ -56,7 +56,7 @@ pub fn rows(programs: &[Program], effort: &Effort) -> Vec<Row> {
             what,
             idle: [0, 1, 2].map(|place| median(runs, |run| run.idle[place])),
             flooded: [0, 1, 2].map(|place| median(runs, |run| run.flooded[place])),
-            flood: median(runs, |run| run.flood),
+            cpu: median(runs, |run| run.cpu),
         }
     };
     scenes.iter().zip(&outcomes).map(row).collect()
@@ -80,13 +80,14 @@ fn scenes(programs: &[Program]) -> Vec<Named<Scene>> {
 fn run(scene: &Scene, effort: &Effort) -> io::Result<Run> {
     let relay = Relay::start(&scene.program)?;
     let link = relay.link(0)?;
-    let idle = round_trip::measure(&link, effort.quiet_round_trips, PAUSE)?;
+    let idle = round_trip::measure(&link, effort.quiet_round_trips, PACE)?;
     let flood = Flood::start(&relay, &frame(&scene.message)?)?;
     thread::sleep(FLOOD_LEAD);
-    let (start, before) = (Instant::now(), flood.bytes());
-    let flooded = round_trip::measure(&link, effort.quiet_round_trips, PAUSE)?;
-    let rate = (flood.bytes() - before) as f64 / start.elapsed().as_secs_f64() / 1e6;
-    Ok(Run { idle, flooded, flood: rate })
+    let (start, before) = (Instant::now(), relay.process.cpu_seconds()?);
+    let flooded = round_trip::measure(&link, effort.quiet_round_trips, PACE)?;
+    let cpu = (relay.process.cpu_seconds()? - before) / start.elapsed().as_secs_f64() * 100.0;
+    let run = Run { idle, flooded, cpu };
+    flood.goes_on().then_some(run).ok_or_else(|| io::Error::other("connections of the flood were closed"))
 }
 
 const HEAD: [&str; 11] = [
@@ -100,7 +101,7 @@ const HEAD: [&str; 11] = [
     "flooded / idle p50",
     "p99",
     "worst",
-    "flood, MB/s",
+    "relay's CPU under the flood, %",
 ];
 
 pub fn print(rows: &[Row]) {
@@ -116,14 +117,14 @@ impl Row {
         let times = self.idle.iter().chain(&self.flooded).map(|time| cell(*time, 1));
         let ratios = (0..3).map(|place| cell(self.ratio(place), 2));
         let what = [self.what.to_owned()].into_iter();
-        what.chain(times).chain(ratios).chain([cell(self.flood, 1)]).collect()
+        what.chain(times).chain(ratios).chain([cell(self.cpu, 0)]).collect()
     }
 }
 
 /// What is hoped of the row that counts.
 pub fn aims(rows: &[Row]) -> impl Iterator<Item = Aim> + '_ {
     let aim = |row: &Row, name: &str, place| Aim {
-        what: format!("a quiet partner's round trip under the flood, {name}, against the idle one's"),
+        what: format!("a quiet partner's round trip under the flood, {name}, as a multiple of the idle one"),
         bound: Bound::AtMost(GREATEST_RATIO),
         figure: row.ratio(place),
     };

@@ -13,11 +13,11 @@ use server::CONNECTIONS_EACH;
 use tempfile::TempDir;
 
 use super::link::{prepare, Link, WAIT};
-use super::process::{self, Process};
+use super::listening::{await_listener, free_port, listen, proxied};
+use super::process::Process;
 use super::programs::Program;
 use super::proxies::{Ports, Proxy};
 
-const POLL: Duration = Duration::from_millis(1);
 /// A proxy's workers start when it listens already.
 const SETTLE: Duration = Duration::from_millis(100);
 
@@ -58,8 +58,8 @@ impl Relay {
     }
 
     fn start_ours(clock: &str) -> io::Result<Self> {
-        let (process, output) = Process::serve(clock)?;
-        Ok(Self { process, route: Route::Partners(process::addresses(output)?) })
+        let (process, addresses) = Process::serve(clock)?;
+        Ok(Self { process, route: Route::Partners(addresses) })
     }
 
     fn start_proxy(proxy: &Proxy, path: &Path) -> io::Result<Self> {
@@ -68,9 +68,9 @@ impl Relay {
         let listener = listen()?;
         let ports = Ports { from: free_port()?, to: listener.local_addr()?.port() };
         let arguments = (proxy.arguments)(&ports, folder.path())?;
-        let process = Process::guard(path.as_os_str(), &arguments, File::create(&log)?)?;
-        let listens = poll(|| super::usage::listens(ports.from).then_some(()));
-        listens.ok_or_else(|| io::Error::other(format!("not started: {}", last_line(&log))))?;
+        let process = Process::guard(folder.path(), path, &arguments, File::create(&log)?)?;
+        let unstarted = || io::Error::other(format!("not started: {}", last_line(&log)));
+        await_listener(ports.from).ok_or_else(unstarted)?;
         let address = (Ipv4Addr::LOCALHOST, ports.from).into();
         Ok(Self { process, route: Route::Proxied { address, listener, _folder: folder } })
     }
@@ -120,34 +120,6 @@ fn session(address: SocketAddr) -> Result<(Peer, Peer), peer::Error> {
         }
     }
     Err(peer::Error::NoAnswer)
-}
-
-/// Both ends of a connection that a proxy hands on.
-fn proxied(address: SocketAddr, listener: &TcpListener) -> io::Result<(TcpStream, TcpStream)> {
-    let near = TcpStream::connect_timeout(&address, WAIT)?;
-    let (far, _) = poll(|| listener.accept().ok()).ok_or(io::ErrorKind::TimedOut)?;
-    Ok((near, far))
-}
-
-/// Connections that come are asked for, since accepting has no time limit.
-fn listen() -> io::Result<TcpListener> {
-    let listener = TcpListener::bind((Ipv4Addr::LOCALHOST, 0))?;
-    listener.set_nonblocking(true)?;
-    Ok(listener)
-}
-
-fn free_port() -> io::Result<u16> {
-    Ok(listen()?.local_addr()?.port())
-}
-
-fn poll<T>(mut attempt: impl FnMut() -> Option<T>) -> Option<T> {
-    let end = Instant::now() + WAIT;
-    loop {
-        match attempt() {
-            None if Instant::now() < end => thread::sleep(POLL),
-            outcome => return outcome,
-        }
-    }
 }
 
 fn last_line(log: &Path) -> String {

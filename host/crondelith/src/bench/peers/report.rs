@@ -59,8 +59,8 @@ impl Row {
 impl fmt::Display for Bound {
     fn fmt(&self, to: &mut fmt::Formatter) -> fmt::Result {
         match self {
-            Self::RatioAtLeast(bound) => write!(to, "at least {bound} of {REFERENCE}'s"),
-            Self::RatioAtMost(bound) => write!(to, "at most {bound} of {REFERENCE}'s"),
+            Self::RatioAtLeast(bound) => write!(to, "at least {bound} times {REFERENCE}'s"),
+            Self::RatioAtMost(bound) => write!(to, "at most {bound} times {REFERENCE}'s"),
             Self::AtMost(bound) => write!(to, "at most {bound}"),
         }
     }

@@ -10,6 +10,7 @@ use super::effort::Effort;
 use super::link::Link;
 use super::relay::{started, Started};
 use super::report::{Bound, Row};
+use super::threads::joined;
 use super::turns::{in_turn, median, Named};
 
 const DATA_LENGTH: usize = 64;
@@ -30,24 +31,29 @@ pub fn rows(relays: &[Named<Started>], effort: &Effort) -> Vec<Row> {
     vec![row("p50", 0, Some(Bound::RatioAtMost(GREATEST_RATIO))), row("p99", 1, None)]
 }
 
-/// Makes so many round trips, with a pause before each.
-pub fn measure(link: &Link, count: usize, pause: Duration) -> io::Result<Percentiles> {
+/// Makes so many round trips, one after the other or at this pace.
+pub fn measure(link: &Link, count: usize, pace: Duration) -> io::Result<Percentiles> {
     let message = Batch::single(DATA_LENGTH, link.form)?;
     let times = thread::scope(|scope| {
         let echo = || (0..count).try_for_each(|_| take(&link.far, &message).and_then(|()| give(&link.far, &message)));
         let echo = thread::Builder::new().spawn_scoped(scope, echo)?;
-        let times = (0..count).map(|_| round_trip(link, &message, pause)).collect::<io::Result<Vec<_>>>();
+        let start = Instant::now();
+        let due = (0..count as u32).map(|number| start + pace * number);
+        let times = due.map(|due| round_trip(link, &message, due)).collect::<io::Result<Vec<_>>>();
         if times.is_err() {
             link.shut_down();
         }
-        echo.join().unwrap_or(Err(io::ErrorKind::Other.into())).and(times)
+        let echoed = joined(echo);
+        times.and_then(|times| echoed.map(|()| times))
     })?;
     percentiles(times).ok_or(io::ErrorKind::InvalidInput.into())
 }
 
-fn round_trip(link: &Link, message: &Batch, pause: Duration) -> io::Result<Duration> {
-    if !pause.is_zero() {
-        thread::sleep(pause);
+/// Not before it is due.
+fn round_trip(link: &Link, message: &Batch, due: Instant) -> io::Result<Duration> {
+    let wait = due.saturating_duration_since(Instant::now());
+    if !wait.is_zero() {
+        thread::sleep(wait);
     }
     let start = Instant::now();
     give(&link.near, message)?;

@@ -12,6 +12,7 @@ use super::batch::Batch;
 use super::effort::Effort;
 use super::relay::{started, Relay, Started};
 use super::report::{Bound, Row};
+use super::threads::joined;
 use super::turns::{in_turn, median, Named};
 
 /// What the receiver reads at most with one call.
@@ -97,9 +98,8 @@ pub fn transfer(from: &TcpStream, to: &TcpStream, batch: &Batch, time: Duration)
             // The sender may wait in a write.
             let _ = from.shutdown(Shutdown::Both);
         }
-        let sent = sender.join().unwrap_or(Err(io::ErrorKind::Other.into()));
-        let received = received?;
-        sent.map(|()| received)
+        let sent = joined(sender);
+        received.and_then(|received| sent.map(|()| received))
     })
 }
 

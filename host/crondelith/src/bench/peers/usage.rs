@@ -6,22 +6,41 @@ use std::{fs, io};
 const TICKS: f64 = 100.0;
 
 /// Places in `stat`, counted from the field after the program's name.
+const STATE: usize = 0;
 const GROUP: usize = 2;
 /// The user's and the system's time, and those of children that have ended.
 const TIMES: std::ops::Range<usize> = 11..15;
 
+/// An ended process, which its parent hasn't noticed yet and which has no memory any more.
+const ENDED: &str = "Z";
+
+/// The system's errors for a process that isn't there.
+const NO_ENTRY: i32 = 2;
+const NO_PROCESS: i32 = 3;
+
 /// The processes of a group.
 pub fn group(leader: u32) -> io::Result<Vec<u32>> {
+    let leader = leader.to_string();
     let number = |entry: io::Result<fs::DirEntry>| entry.ok()?.file_name().to_str()?.parse().ok();
-    let is_member = |id: &u32| stat(*id).is_ok_and(|fields| fields.get(GROUP) == Some(&f64::from(leader)));
+    let is_member =
+        |id: &u32| stat(*id).is_ok_and(|fields| fields.get(GROUP) == Some(&leader) && fields[STATE] != ENDED);
     Ok(fs::read_dir("/proc")?.filter_map(number).filter(is_member).collect())
+}
+
+/// A process may end between two looks, and uses nothing then.
+pub fn unless_ended(used: io::Result<f64>) -> io::Result<f64> {
+    used.or_else(|error| match error.raw_os_error() {
+        Some(NO_ENTRY | NO_PROCESS) => Ok(0.0),
+        _ => Err(error),
+    })
 }
 
 /// Of all its threads.
 pub fn cpu_seconds(process: u32) -> io::Result<f64> {
     let fields = stat(process)?;
     let times = fields.get(TIMES).ok_or(io::ErrorKind::InvalidData)?;
-    Ok(times.iter().sum::<f64>() / TICKS)
+    let ticks = times.iter().map(|field| field.parse::<f64>().map_err(io::Error::other)).sum::<io::Result<f64>>()?;
+    Ok(ticks / TICKS)
 }
 
 /// Pages that processes share count for each of them.
@@ -32,20 +51,9 @@ pub fn resident_kib(process: u32) -> io::Result<f64> {
     number.ok_or(io::ErrorKind::InvalidData.into())
 }
 
-/// The fields after the name, which is in brackets and may hold anything. The first is a letter, here 0.
-fn stat(process: u32) -> io::Result<Vec<f64>> {
+/// The fields after the name, which is in brackets and may hold anything.
+fn stat(process: u32) -> io::Result<Vec<String>> {
     let text = fs::read_to_string(format!("/proc/{process}/stat"))?;
     let (_, fields) = text.rsplit_once(')').ok_or(io::ErrorKind::InvalidData)?;
-    Ok(fields.split_whitespace().map(|field| field.parse().unwrap_or_default()).collect())
-}
-
-/// Whether something listens at this port of 127.0.0.1. A connection to try it would be handed on.
-pub fn listens(port: u16) -> bool {
-    let address = format!("{:08X}:{port:04X}", u32::from_ne_bytes([127, 0, 0, 1]));
-    let sockets = fs::read_to_string("/proc/net/tcp").unwrap_or_default();
-    let is_it = |line: &str| {
-        let mut fields = line.split_whitespace().skip(1);
-        fields.next() == Some(&address) && fields.nth(1) == Some("0A")
-    };
-    sockets.lines().any(is_it)
+    Ok(fields.split_whitespace().map(str::to_owned).collect())
 }
