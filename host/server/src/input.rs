@@ -29,6 +29,8 @@ pub struct Input {
     buffer: Box<[u8]>,
     start: usize,
     end: usize,
+    /// The length of the first message, once its frame is whole.
+    first: Option<usize>,
 }
 
 impl Input {
@@ -41,6 +43,7 @@ impl Input {
             Ok(0) => Ok(Found::End),
             Ok(count) => {
                 self.end += count;
+                self.look();
                 Ok(if count == length { Found::Part } else { Found::All })
             }
             Err(error) if error.kind() == io::ErrorKind::WouldBlock => Ok(Found::Nothing),
@@ -52,15 +55,29 @@ impl Input {
     }
 
     /// The first message, once its frame is whole.
-    pub fn message(&self) -> Result<Option<&[u8]>, Error> {
-        let bytes = &self.buffer[self.start..self.end];
-        let length = frames::message_length(bytes)?;
-        Ok(length.and_then(|length| bytes.get(HEADER..HEADER + length)))
+    pub fn message(&self) -> Option<&[u8]> {
+        let length = self.first?;
+        Some(&self.buffer[self.start + HEADER..][..length])
     }
 
-    /// Passes over the first frame, whose message has this length.
-    pub fn take(&mut self, length: usize) {
-        self.start += HEADER + length;
+    /// Passes over the first message, if there is one.
+    pub fn take(&mut self) {
+        if let Some(length) = self.first {
+            self.start += HEADER + length;
+            self.look();
+        }
+    }
+
+    /// Why what comes next is no frame, if so.
+    pub fn error(&self) -> Option<Error> {
+        frames::message_length(&self.buffer[self.start..self.end]).err()
+    }
+
+    /// Finds out whether there is a whole frame.
+    fn look(&mut self) {
+        let bytes = &self.buffer[self.start..self.end];
+        let length = frames::message_length(bytes).ok().flatten();
+        self.first = length.filter(|length| bytes.len() >= HEADER + length);
     }
 
     /// Whether no byte waits, not even of half a frame.
@@ -77,7 +94,7 @@ impl Input {
 
     /// Gives the buffer back with all that waits in it.
     pub fn discard(&mut self, spare: &mut Spare) {
-        self.start = self.end;
+        (self.start, self.first) = (self.end, None);
         self.release(spare);
     }
 

@@ -26,7 +26,8 @@ impl Turns {
     }
 
     pub fn join(&mut self, connection: usize) {
-        if !self.queue.contains(&connection) {
+        // Most often it is the one whose turn it is.
+        if self.queue.front() != Some(&connection) && !self.queue.contains(&connection) {
             self.queue.push_back(connection);
         }
     }

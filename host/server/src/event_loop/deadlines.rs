@@ -49,7 +49,7 @@ impl EventLoop {
         let Some(connection) = &mut self.connections[number] else { return };
         if connection.due.is_some_and(|due| due <= now) {
             // A message that has come in time may wait for its turn.
-            if connection.input.message().is_ok_and(|message| message.is_some()) {
+            if connection.input.message().is_some() {
                 connection.due = Some(now + limits.frame);
             } else {
                 let phase = connection.phase;

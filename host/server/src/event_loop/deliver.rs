@@ -10,15 +10,16 @@ const ESTABLISH: u8 = 6;
 const SESSION_END: u8 = 9;
 
 impl EventLoop {
-    pub(super) fn deliver_reply(&mut self, caller: usize, answer: Answer, reply: &[u8]) {
+    /// What is replied stands in the reply buffer.
+    pub(super) fn deliver_reply(&mut self, caller: usize, answer: Answer) {
         if answer.reply > 0 {
-            self.outputs[caller].append(&reply[..answer.reply as usize], &mut self.spare_outputs);
-            self.filled.push(caller);
+            self.outputs[caller].append(&self.reply[..answer.reply as usize], &mut self.spare_outputs);
+            self.note_filled(caller);
         }
     }
 
     /// What is relayed stands in the room of an output, or else in the scratch buffer.
-    pub(super) fn deliver_relay(&mut self, caller: usize, answer: Answer, output: Option<usize>) {
+    pub(super) fn deliver_relay(&mut self, answer: Answer, output: Option<usize>) {
         let Some(destination) = destination(answer) else { return };
         let length = answer.relay as usize;
         match output {
@@ -30,8 +31,14 @@ impl EventLoop {
             }
             None => self.outputs[destination].append(&self.scratch[..length], &mut self.spare_outputs),
         }
-        debug_assert!(destination != caller);
-        self.filled.push(destination);
+        self.note_filled(destination);
+    }
+
+    /// Something was added to this connection's output. Most often it was the last one too.
+    fn note_filled(&mut self, number: usize) {
+        if self.filled.last() != Some(&number) {
+            self.filled.push(number);
+        }
     }
 
     /// Sessions, as the engine has them: one begins with the notification of its establishing, and ends with that of its
@@ -64,16 +71,15 @@ impl EventLoop {
     /// The output that an accepted call has left full, after as much as possible of it is written.
     pub(super) fn full_output(&mut self, caller: usize, answer: Answer) -> Option<usize> {
         let replied = (answer.reply > 0).then_some(caller);
-        let full = |this: &Self, number: usize| this.outputs[number].is_full();
-        for number in replied.into_iter().chain(destination(answer)) {
-            if full(self, number) {
-                self.write(number);
-            }
-            if full(self, number) {
-                return Some(number);
-            }
+        let filled = [destination(answer), replied].into_iter().flatten();
+        filled.into_iter().find(|number| self.stays_full(*number))
+    }
+
+    fn stays_full(&mut self, number: usize) -> bool {
+        if self.outputs[number].is_full() {
+            self.write(number);
         }
-        None
+        self.outputs[number].is_full()
     }
 }
 

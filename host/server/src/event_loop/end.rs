@@ -40,7 +40,7 @@ impl EventLoop {
             Ok(answer) => {
                 self.partner_of(number).statistics.done += 1;
                 if !quietly {
-                    self.deliver_relay(number, answer, None);
+                    self.deliver_relay(answer, None);
                 }
             }
             Err(refusal) => self.log_connection(number, "not closed", refusal),

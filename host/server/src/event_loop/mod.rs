@@ -18,6 +18,7 @@ use std::sync::mpsc::Receiver;
 use std::sync::Arc;
 use std::time::{Duration, Instant};
 
+use engine::relay::BUFFER;
 use frames::MESSAGE_LIMIT;
 use mio::event::Event;
 use mio::{Events, Interest, Poll, Token};
@@ -57,6 +58,8 @@ pub struct EventLoop {
     outputs: Vec<Output>,
     spare_inputs: Spare,
     spare_outputs: Spare,
+    /// Lent for what is replied.
+    reply: [u8; BUFFER],
     /// Lent for what is relayed where the output isn't known beforehand.
     scratch: Box<[u8]>,
     partners: Vec<Partner>,
@@ -115,6 +118,7 @@ impl EventLoop {
             outputs: (0..CONNECTIONS).map(|_| Output::default()).collect(),
             spare_inputs: Spare::new(input::CAPACITY),
             spare_outputs: Spare::new(output::CAPACITY),
+            reply: [0; BUFFER],
             scratch: vec![0; MESSAGE_LIMIT].into(),
             partners: listeners.into_ports().into_iter().map(partner).collect(),
             first_partner: 0,

@@ -39,7 +39,7 @@ impl EventLoop {
 
     fn read_connection(&mut self, number: usize) {
         let Some(connection) = &mut self.connections[number] else { return };
-        let has_message = !matches!(connection.input.message(), Ok(None));
+        let has_message = connection.input.message().is_some();
         if !connection.readable || has_message || !connection.is_taken_from() {
             return;
         }
@@ -63,26 +63,24 @@ impl EventLoop {
         if !connection.is_taken_from() {
             return;
         }
-        match connection.input.message() {
-            Ok(Some(_)) => {
-                if connection.phase == Phase::Open {
-                    connection.due = None;
-                }
-                self.partner_of(number).turns.join(number);
+        if connection.input.message().is_some() {
+            if connection.phase == Phase::Open {
+                connection.due = None;
             }
-            Ok(None) if connection.ended => {
-                let end = if connection.input.is_empty() { End::Left } else { End::Unreadable(frames::Error::Cut) };
-                self.end(number, end);
-            }
-            Ok(None) => self.expect_bytes(number),
-            Err(error) => self.end(number, End::Unreadable(error)),
+            return self.partner_of(number).turns.join(number);
+        }
+        match connection.input.error() {
+            Some(error) => self.end(number, End::Unreadable(error)),
+            None if !connection.ended => self.expect_bytes(number),
+            None if connection.input.is_empty() => self.end(number, End::Left),
+            None => self.end(number, End::Unreadable(frames::Error::Cut)),
         }
     }
 
     fn has_session_end(&self, number: usize) -> bool {
         let Some(connection) = &self.connections[number] else { return false };
-        let first = connection.input.message().ok().flatten().and_then(|message| message.first());
-        connection.is_taken_from() && first == Some(&SESSION_END)
+        let first = connection.input.message().and_then(|message| message.first());
+        first == Some(&SESSION_END) && connection.is_taken_from()
     }
 
     /// There is no whole message: it has nothing to offer until more has come.

@@ -56,8 +56,7 @@ impl EventLoop {
             return 0;
         };
         let is_opening = connection.phase == Phase::Opening;
-        let length = connection.input.message().ok().flatten().map_or(0, <[u8]>::len);
-        let cost = FIXED_COST + length;
+        let cost = FIXED_COST + connection.input.message().map_or(0, <[u8]>::len);
         if !turns.affords(cost) {
             return 0;
         }
@@ -75,8 +74,7 @@ impl EventLoop {
     }
 
     fn open(&mut self, number: usize) {
-        let mut reply = [0; BUFFER];
-        match self.relay.open(number, &mut reply) {
+        match self.relay.open(number, &mut self.reply) {
             Ok(answer) => {
                 let due = self.now + self.limits.version;
                 let Some(connection) = &mut self.connections[number] else { return };
@@ -84,7 +82,7 @@ impl EventLoop {
                 self.wake_by(due);
                 self.partner_of(number).turns.leave(number);
                 self.count_done(number, 0);
-                self.deliver_reply(number, answer, &reply);
+                self.deliver_reply(number, answer);
             }
             Err(refusal) => self.refused(number, 0, refusal),
         }
@@ -92,8 +90,8 @@ impl EventLoop {
 
     /// Offers the first message of a connection to the engine and acts on the answer.
     pub(super) fn offer(&mut self, number: usize) {
-        let Some(connection) = &self.connections[number] else { return };
-        let Ok(Some(message)) = connection.input.message() else { return };
+        let Some(connection) = &mut self.connections[number] else { return };
+        let Some(message) = connection.input.message() else { return };
         let (length, kind) = (message.len(), message.first().copied());
         let random = match kind.filter(|kind| NEEDS_RANDOM.contains(kind)) {
             Some(_) => match self.random.take() {
@@ -102,7 +100,6 @@ impl EventLoop {
             },
             None => &NOT_RANDOM,
         };
-        let mut reply = [0; BUFFER];
         // Data is written where it is to go.
         let output = connection.paired.filter(|_| kind == Some(DATA));
         let room = length.max(BUFFER);
@@ -110,16 +107,19 @@ impl EventLoop {
             Some(paired) => self.outputs[paired].room(room, &mut self.spare_outputs),
             None => &mut self.scratch[..room],
         };
-        match self.relay.message(number, message, random, &mut reply, relay) {
-            Ok(answer) => {
-                self.count_done(number, length);
-                self.taken(number, length);
-                self.deliver_reply(number, answer, &reply);
-                self.deliver_relay(number, answer, output);
-                self.follow(number, kind, answer);
-            }
-            Err(refusal) => self.refused(number, length, refusal),
+        let answer = match self.relay.message(number, message, random, &mut self.reply, relay) {
+            Ok(answer) => answer,
+            Err(refusal) => return self.refused(number, length, refusal),
+        };
+        connection.input.take();
+        connection.waits = false;
+        self.count_done(number, length);
+        self.deliver_reply(number, answer);
+        self.deliver_relay(answer, output);
+        if kind != Some(DATA) {
+            self.follow(number, kind, answer);
         }
+        self.keep_bound(number, answer);
     }
 
     fn count_done(&mut self, number: usize, length: usize) {
@@ -128,15 +128,7 @@ impl EventLoop {
         statistics.bytes += length as u64;
     }
 
-    /// The first message of a connection has been taken.
-    fn taken(&mut self, number: usize, length: usize) {
-        if let Some(connection) = &mut self.connections[number] {
-            connection.input.take(length);
-            connection.waits = false;
-        }
-    }
-
-    /// What else follows from an accepted message.
+    /// What else follows from an accepted message that isn't data.
     fn follow(&mut self, number: usize, kind: Option<u8>, answer: Answer) {
         self.follow_session(number, kind, answer);
         let Some(connection) = &mut self.connections[number] else { return };
@@ -145,7 +137,12 @@ impl EventLoop {
         }
         if answer.disconnect != 0 {
             self.end(number, End::OtherVersion);
-        } else if let Some(full) = self.full_output(number, answer) {
+        }
+    }
+
+    /// Takes nothing more from a connection whose message has left an output full.
+    fn keep_bound(&mut self, number: usize, answer: Answer) {
+        if let Some(full) = self.full_output(number, answer) {
             self.hold(number, Hold::Output(full));
         }
     }
@@ -156,7 +153,7 @@ impl EventLoop {
             Consequence::Drop => {
                 self.partner_of(number).statistics.dropped += 1;
                 self.log_connection(number, "dropped", refusal);
-                self.taken(number, length);
+                self.connections[number].iter_mut().for_each(|connection| connection.input.take());
                 let pause = PAUSE * (1 + length / PAUSE_BYTES) as u32;
                 self.hold(number, Hold::Pause(self.now + pause));
             }
