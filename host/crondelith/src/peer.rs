@@ -1,12 +1,14 @@
 //! `crondelith peer`: receives or sends a file through a relay.
 
 use std::fs::File;
-use std::io::{stderr, stdout, IsTerminal, Stderr, Write};
+use std::io::{stdout, Stderr, Write};
 use std::path::Path;
 use std::thread;
 
 use codec::DATA_LIMIT;
-use peer::{confirm, receive_contents, send_contents, Error, Meter, PartFile, Peer, MESSAGE_SIZE};
+use peer::{
+    confirm, receive_contents, send_contents, Error, Fingerprint, Meter, PartFile, Patience, Peer, MESSAGE_SIZE,
+};
 use server::PARTNERS;
 
 use crate::arguments::{usage, Arguments, Known};
@@ -25,10 +27,10 @@ usage: crondelith peer receive FILE [OPTIONS]
   --force             receive: replace FILE if it exists
   --message-size N    send: bytes of the file in each message, 1 to 65533 (default 16384)
 
-The receiver writes to FILE with '.part' after its name and gives it its name once it is complete; otherwise it removes
-it. While it waits it extends its lease; if the relay doesn't extend it, it leases another id and prints that one too.
-The sender is done when the receiver has confirmed all bytes. A relay hands on 65,536 bytes a second for a partner whose
-allowance is used up.
+The receiver writes to a file beside FILE whose name ends in '.part'. That gets its name once it is complete and has the
+digest that the sender announced, and is removed otherwise. While the receiver waits it extends its lease; if the relay
+doesn't extend it, it leases another id and prints that one too. The sender is done when the receiver has confirmed the
+file. A relay hands on 65,536 bytes a second for a partner whose allowance is used up.
 
 The exit status is 0 if the whole file has come, 1 if not, and 2 if the arguments are wrong or FILE is in the way.
 ";
@@ -63,29 +65,28 @@ fn receive(arguments: &Arguments) -> Outcome {
     PartFile::check(file, replace).map_err(in_the_way)?;
     let peer = relay.connect()?;
     end_on_interrupt(&peer)?;
-    let (mut peer, length) = receive_at(peer, file, replace).map_err(|failure| match interrupt::asked() {
+    let (mut peer, kept) = receive_at(peer, file, replace).map_err(|failure| match interrupt::asked() {
         true => Failure::Failed("interrupted before the whole file had come".into()),
         false => failure,
     })?;
-    confirm(&mut peer, length)
+    confirm(&mut peer, &kept)
         .map_err(|error| Failure::Failed(format!("'{}' is complete, but {error}", file.display())))?;
     note(&format!("'{}' is complete", file.display()));
     finish(peer);
     Ok(())
 }
 
-/// Waits for a sender and writes its file, whose length it gives. The sender isn't told yet.
-fn receive_at(mut peer: Peer, file: &Path, replace: bool) -> Result<(Peer, u64), Failure> {
+/// Waits for a sender and keeps its file. The sender isn't told yet.
+fn receive_at(mut peer: Peer, file: &Path, replace: bool) -> Result<(Peer, Fingerprint), Failure> {
     let mut part = PartFile::create(file, replace).map_err(|error| failed_at(file, error))?;
     print_id(peer.lease().map_err(failed)?)?;
     note("waiting for a sender; the id is its first argument");
     await_session(&mut peer)?;
     let mut meter = begin_meter();
-    let received = receive_contents(&mut peer, &mut part, |done, total| meter.update(done, total));
+    let received = receive_contents(&mut peer, &mut part, Patience::default(), |progress| meter.update(progress));
     meter.end();
-    let length = received.map_err(failed)?;
-    part.keep().map_err(|error| failed_at(file, error))?;
-    Ok((peer, length))
+    let kept = part.keep(&received.map_err(failed)?).map_err(|error| failed_at(file, error))?;
+    Ok((peer, kept))
 }
 
 fn await_session(peer: &mut Peer) -> Outcome {
@@ -107,7 +108,7 @@ fn send(arguments: &Arguments) -> Outcome {
     let mut peer = relay.connect()?;
     peer.establish(id).map_err(failed)?;
     let mut meter = begin_meter();
-    let sent = send_contents(&mut peer, file, length, size, |done, total| meter.update(done, total));
+    let sent = send_contents(&mut peer, file, length, size, Patience::default(), |progress| meter.update(progress));
     meter.end();
     sent.map_err(failed)?;
     note("the receiver has confirmed the whole file");
@@ -171,7 +172,7 @@ fn print_id(id: u32) -> Outcome {
 
 fn begin_meter() -> Meter<Stderr> {
     note("the session is established");
-    Meter::new(stderr(), stderr().is_terminal())
+    Meter::stderr()
 }
 
 /// The transfer is complete, so an error in parting changes nothing.

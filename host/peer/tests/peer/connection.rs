@@ -4,9 +4,9 @@ use std::net::TcpListener;
 use std::time::{Duration, Instant, SystemTime, UNIX_EPOCH};
 
 use codec::Message;
-use peer::{extension_wait, Error, Peer};
+use peer::{extension_wait, receive_contents, Error, Patience, Peer};
 
-use crate::support::{assert_words, scripted, Connection, COOKIE, ID, LATER, SESSION, VERSION};
+use crate::support::{assert_words, fingerprint, scripted, Connection, COOKIE, ID, LATER, SESSION, VERSION};
 
 /// The error of connecting to a relay that does this with the connection.
 #[track_caller]
@@ -62,7 +62,6 @@ fn another_first_message() {
 fn malformed_bytes() {
     assert_words(connect_error(|mut connection| connection.send_raw(b"HTTP/1.1")), &["malformed", "type 84"]);
     assert_words(connect_error(|mut connection| connection.send_raw(&[0, 0])), &["malformed", "length 0"]);
-    assert_words(connect_error(|mut connection| connection.send_raw(&[0, 9, 1])), &["malformed", "within a frame"]);
     assert_words(connect_error(|mut connection| connection.send_raw(&[0, 1, 1])), &["malformed", "empty"]);
     assert_words(
         connect_error(|mut connection| connection.send_raw(&[0, 3, 1, 3, 2])),
@@ -184,12 +183,14 @@ fn a_session_that_comes_before_the_extension() {
         connection.send(Message::EstablishNotification { session: SESSION });
         connection.send(Message::ExtensionRefused);
         connection.send(Message::DataReceive { data: &[0; 8] });
+        connection.send(Message::DataReceive { data: &fingerprint(b"").digest });
         connection.drain();
     });
     let mut peer = Peer::connect(address).expect("a handshake");
     peer.lease().expect("a lease");
     peer.await_session(|_| panic!("no new id")).expect("a session");
-    assert_eq!(peer::receive_contents(&mut peer, Vec::new(), |_, _| ()).expect("an empty file"), 0);
+    let sent = receive_contents(&mut peer, Vec::new(), Patience::default(), |_| ()).expect("an empty file");
+    assert_eq!(sent, fingerprint(b""));
     drop(peer);
     relay.join().expect("the relay");
 }
