@@ -15,6 +15,7 @@
 //! A session that ends before all has come is a failed transfer for the receiver, one that ends before the confirmation
 //! for the sender. After an error in a transfer the connection is closed, by which the other side's session ends too.
 
+mod address;
 mod connection;
 mod disk;
 mod error;
@@ -28,6 +29,7 @@ mod receive;
 mod send;
 mod session;
 
+pub use address::{AddressError, RelayAddress};
 pub use connection::Closer;
 pub use disk::{Disk, SystemDisk};
 pub use error::Error;

@@ -24,7 +24,7 @@ pub struct Peer {
 }
 
 impl Peer {
-    /// Connects to a relay's port, which says the partner.
+    /// Connects to a relay's port, which says the partner. A name is resolved, and its addresses are tried in order.
     pub fn connect(address: impl ToSocketAddrs) -> Result<Self, Error> {
         let stream = connect(address).map_err(Error::Unreachable)?;
         // Answers and the end of a session are small and shouldn't wait for more.

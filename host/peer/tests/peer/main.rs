@@ -1,5 +1,6 @@
 //! The peer against a relay of the tests' own, its progress line and its files.
 
+mod address;
 mod connection;
 mod digest;
 mod part_file;

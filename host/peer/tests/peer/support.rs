@@ -33,14 +33,19 @@ impl Connection {
         Self { stream, reader: frames::Reader::default() }
     }
 
+    /// A peer may be gone already, which its own outcome shows.
     pub fn send(&mut self, message: Message) {
+        self.try_send(message);
+    }
+
+    /// Whether the peer is still there.
+    pub fn try_send(&mut self, message: Message) -> bool {
         let mut frame = Vec::new();
         frames::append(&codec::encode(&message).expect("a message"), &mut frame).expect("a frame");
-        self.send_raw(&frame);
+        self.stream.write_all(&frame).is_ok()
     }
 
     pub fn send_raw(&mut self, bytes: &[u8]) {
-        // A peer may be gone already, which its own outcome shows.
         let _ = self.stream.write_all(bytes);
     }
 
@@ -73,6 +78,11 @@ impl Connection {
     pub fn grant_session(&mut self) {
         self.expect(Message::EstablishRequest { id: ID });
         self.send(Message::Established { id: ID, session: SESSION });
+    }
+
+    /// Waits until something has come, and leaves it unread.
+    pub fn await_bytes(&mut self) {
+        assert_eq!(self.stream.peek(&mut [0]).expect("bytes"), 1);
     }
 
     /// Reads whatever comes to the end of the stream.

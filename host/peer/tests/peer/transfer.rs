@@ -63,6 +63,8 @@ fn an_empty_file() {
     check_transfer(0, MESSAGE_SIZE);
 }
 
+const STOPPED: &str = "the relay stopped or closed the connection";
+
 #[test]
 fn the_sender_vanishes() {
     let (outcome, written) = receive_at(|connection| {
@@ -75,8 +77,25 @@ fn the_sender_vanishes() {
     assert_eq!(written.len(), 1_234);
     let (outcome, _) = receive_at(|connection| connection.send(Message::SessionEndNotification));
     assert_words(outcome.expect_err("no file"), &["ended the session or vanished", "no byte had come"]);
+}
+
+#[test]
+fn the_relay_stops_while_a_file_is_received() {
     let (outcome, _) = receive_at(|connection| announce(connection, 1));
-    assert_words(outcome.expect_err("no file"), &["the relay stopped or closed the connection", "0 of 1 bytes"]);
+    assert_words(outcome.expect_err("no file"), &[STOPPED, "0 of 1 bytes"]);
+    // Within a frame.
+    let (outcome, _) = receive_at(|connection| {
+        announce(connection, 1);
+        connection.send_raw(&[0, 9, 1]);
+    });
+    assert_words(outcome.expect_err("no file"), &[STOPPED, "0 of 1 bytes"]);
+    // With a count that it hasn't read, by which the connection is reset.
+    let (outcome, _) = receive_at(|connection| {
+        announce(connection, 50_000);
+        connection.send(Message::DataReceive { data: &[1; 40_000] });
+        connection.await_bytes();
+    });
+    assert_words(outcome.expect_err("no file"), &[STOPPED, "40,000 of 50,000 bytes"]);
 }
 
 #[test]
@@ -220,12 +239,12 @@ fn the_sender_is_never_far_ahead_of_the_receiver() {
 }
 
 #[test]
-fn the_relay_closes_while_a_file_is_sent() {
+fn the_relay_stops_while_a_file_is_sent() {
     let error = send_at(&b"abc"[..], 3, |connection| expect_whole(connection, b"abc"));
-    assert_words(
-        error.expect_err("not sent"),
-        &["the relay stopped or closed the connection", "0 of 3 bytes had arrived"],
-    );
+    assert_words(error.expect_err("not sent"), &[STOPPED, "0 of 3 bytes had arrived"]);
+    // With bytes that it hasn't read, by which the connection is reset.
+    let error = send_at(io::repeat(1), 1 << 40, |connection| connection.await_bytes());
+    assert_words(error.expect_err("not sent"), &[STOPPED, "0 of 1,099,511,627,776 bytes had arrived"]);
 }
 
 #[test]
