@@ -46,8 +46,8 @@ impl Stall {
 
     pub fn check(&mut self, progress: &mut impl FnMut(Progress)) -> Result<(), Error> {
         let time = self.moved.elapsed();
-        if self.patience.limit.is_some_and(|limit| time >= limit) {
-            return Err(Error::Stalled(time));
+        if let Some(limit) = self.patience.limit.filter(|limit| time >= *limit) {
+            return Err(Error::Stalled(limit));
         }
         if !self.told && time >= self.patience.notice {
             self.told = true;

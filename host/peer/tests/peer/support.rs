@@ -160,8 +160,9 @@ pub fn receive_at(script: impl FnOnce(&mut Connection) + Send + 'static) -> (Res
         connection.send(Message::EstablishNotification { session: SESSION });
         script(&mut connection);
     });
-    let mut written = Vec::new();
-    let outcome = receive_file(&mut holder(address), &mut written, |_| ());
+    let (mut peer, mut written) = (holder(address), Vec::new());
+    let outcome = receive_file(&mut peer, &mut written, |_| ());
+    // The connection's end after an error mustn't depend on the peer's drop.
     relay.join().expect("the relay");
     (outcome, written)
 }
@@ -190,7 +191,6 @@ pub fn send_at(
     });
     let mut peer = Peer::connect(address).expect("a handshake");
     let outcome = send_file(&mut peer, ID, reader, length, |_| ());
-    drop(peer);
     relay.join().expect("the relay");
     outcome
 }
