@@ -74,10 +74,9 @@ impl Peer {
     }
 
     pub(crate) fn receive_until(&mut self, deadline: Option<Instant>) -> Result<Option<Message<'_>>, Error> {
-        let answer_deadline = self.answer_deadline();
         let message = self.incoming.receive(deadline)?;
         if message == Some(Message::Keepalive) {
-            self.outgoing.send(&Message::Keepalive, Some(answer_deadline))?;
+            self.outgoing.send(&Message::Keepalive, Some(Instant::now() + self.answer_wait))?;
         }
         Ok(message)
     }

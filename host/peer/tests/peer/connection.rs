@@ -109,6 +109,22 @@ fn an_unexpected_message_is_ignored_and_a_keepalive_answered() {
 }
 
 #[test]
+fn a_keepalive_is_answered_however_long_nothing_has_come() {
+    let wait = Duration::from_millis(100);
+    let (address, relay) = scripted(move |mut connection| {
+        connection.shake_hands();
+        thread::sleep(3 * wait);
+        connection.send(Message::Keepalive);
+        connection.expect(Message::Keepalive);
+        connection.send(Message::EstablishNotification { session: SESSION });
+    });
+    let mut peer = Peer::connect(address).expect("a handshake");
+    peer.set_answer_wait(wait);
+    peer.await_session(|_| panic!("no new id")).expect("a session");
+    relay.join().expect("the relay");
+}
+
+#[test]
 fn each_establish_status_in_words() {
     let words = ["no id 12345678", "offline", "another session", "a session already", "this peer's own"];
     for (status, words) in (1..).zip(words) {
@@ -159,7 +175,7 @@ fn a_lease_is_extended_and_else_another_id_leased() {
         connection.grant_lease(soon);
         connection.expect(Message::ExtensionRequest { cookie: &COOKIE });
         let asked = Instant::now();
-        connection.send(Message::ExtensionGranted { expiration: soon + 4 });
+        connection.send(Message::ExtensionGranted { expiration: soon + 6 });
         connection.expect(Message::ExtensionRequest { cookie: &COOKIE });
         // Half of what the extension left, and not of the first lease.
         assert!(asked.elapsed() > Duration::from_millis(1_500));
