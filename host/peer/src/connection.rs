@@ -40,8 +40,7 @@ impl Incoming {
             Ok(None) => Err(Error::Closed),
             Err(error) if error.is_timeout() => Ok(None),
             Err(frames::Error::Io(error)) => Err(failed(error)),
-            // A relay that stops may do so within a frame.
-            Err(frames::Error::Cut) => Err(Error::Closed),
+            Err(frames::Error::Cut) => Err(Error::ClosedMidway),
             Err(error) => Err(Error::Frame(error)),
         }
     }
@@ -78,11 +77,11 @@ impl Closer {
     }
 }
 
-/// Why a read or write failed. A relay that stops may leave bytes unread, which resets the connection.
+/// Why a read or write failed. A relay that stops with bytes unread resets the connection.
 fn failed(error: io::Error) -> Error {
     use io::ErrorKind::{BrokenPipe, ConnectionAborted, ConnectionReset, NotConnected};
     match error.kind() {
-        BrokenPipe | ConnectionAborted | ConnectionReset | NotConnected => Error::Closed,
+        BrokenPipe | ConnectionAborted | ConnectionReset | NotConnected => Error::ClosedMidway,
         _ if frames::is_timeout(&error) => Error::NoAnswer,
         _ => Error::Connection(error),
     }

@@ -24,6 +24,8 @@ pub enum Error {
     NoAnswer,
     /// The relay closed the connection.
     Closed,
+    /// Likewise, but within a frame or with bytes unread, as a relay does that is stopped.
+    ClosedMidway,
     Connection(io::Error),
     Frame(frames::Error),
     /// A frame that holds no message of the protocol. An empty one has no type.
@@ -105,7 +107,7 @@ impl fmt::Display for Error {
                 write!(to, "the relay speaks version {major}.{minor} of the protocol, this peer only 1.0")
             }
             Self::NoAnswer => write!(to, "the relay hasn't answered in time"),
-            Self::Closed => write!(to, "the relay stopped or closed the connection"),
+            Self::Closed | Self::ClosedMidway => write!(to, "the relay stopped or closed the connection"),
             Self::Connection(error) => write!(to, "the connection to the relay failed: {error}"),
             Self::Frame(error) => write!(to, "the relay's bytes are malformed: {error}"),
             Self::Malformed { kind, length } => write_malformed(*kind, *length, to),

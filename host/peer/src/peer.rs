@@ -40,7 +40,7 @@ impl Peer {
             Ok(Some(Message::ProtocolVersion { major, minor })) => (major, minor),
             Ok(Some(_)) => return Err(Error::NoVersion),
             Ok(None) => return Err(Error::NoAnswer),
-            Err(Error::Closed) => return Err(Error::ClosedBeforeVersion),
+            Err(Error::Closed | Error::ClosedMidway) => return Err(Error::ClosedBeforeVersion),
             Err(error) => return Err(error),
         };
         let known = version == (1, 0);

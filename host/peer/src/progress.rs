@@ -73,7 +73,7 @@ fn clock(seconds: f64) -> String {
 }
 
 /// The columns of the terminal that stderr is, or None if it is none.
-pub fn stderr_columns() -> Option<usize> {
+fn stderr_columns() -> Option<usize> {
     let size = rustix::termios::tcgetwinsize(stderr()).ok()?;
     // A terminal that doesn't know its size says 0.
     Some(if size.ws_col == 0 { USUAL_COLUMNS } else { size.ws_col.into() })
@@ -172,8 +172,8 @@ impl<W: Write> Meter<W> {
     }
 }
 
-/// The line cut or filled up to the terminal's width, so that it covers the last one. The last column stays free, since a
-/// character there makes some terminals begin another line.
+/// The line cut or filled up to the terminal's width, so that it covers the one before. The last column stays free,
+/// since a character there makes some terminals begin another line.
 fn fitted(line: &str, columns: usize) -> String {
     let width = columns.saturating_sub(1);
     format!("{line:width$.width$}")

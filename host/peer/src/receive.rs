@@ -47,9 +47,8 @@ pub fn confirm(peer: &mut Peer, kept: &Fingerprint) -> Result<(), Error> {
         // A Keepalive isn't answered: a write might wait, and nothing is to be kept up any more.
         match peer.incoming.receive(Some(deadline)) {
             // However the session ends now, the file is there.
-            Ok(Some(Message::SessionEndNotification)) | Ok(None) | Err(Error::Closed | Error::Connection(_)) => {
-                return Ok(())
-            }
+            Ok(Some(Message::SessionEndNotification) | None) => return Ok(()),
+            Err(Error::Closed | Error::ClosedMidway | Error::Connection(_)) => return Ok(()),
             Ok(Some(Message::DataReceive { data })) if !data.is_empty() => return Err(Error::TooMuch),
             Ok(Some(_)) => {}
             Err(error) => return Err(error),

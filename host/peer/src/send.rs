@@ -247,7 +247,8 @@ impl Sending<'_> {
         self.outgoing.send(message, None).inspect_err(|_| self.await_reason())
     }
 
-    /// What the relay said before a write failed tells more than the write's error, so the watching thread may end first.
+    /// What the relay said before a write failed tells more than the write's error, so the watching thread may end
+    /// first.
     fn await_reason(&self) {
         while self.events.recv_timeout(REASON_WAIT).is_ok() {}
     }

@@ -265,6 +265,19 @@ fn a_keepalive_does_no_harm_at_the_end_of_a_connection() {
     relay.join().expect("the relay");
 }
 
+/// What was sent last may be lost then.
+#[test]
+fn a_relay_that_leaves_bytes_unread_ends_no_connection_in_order() {
+    let (address, relay) = scripted(|mut connection| {
+        connection.shake_hands();
+        connection.await_bytes();
+    });
+    let mut peer = Peer::connect(address).expect("a handshake");
+    peer.end_session().expect("a connection");
+    assert_words(peer.finish().expect_err("no order"), &["the relay stopped or closed the connection"]);
+    relay.join().expect("the relay");
+}
+
 /// What the peer sends fills the buffers, since the relay reads none of it.
 #[test]
 fn a_relay_that_takes_nothing_is_waited_for_for_a_time_only() {
