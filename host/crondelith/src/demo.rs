@@ -100,11 +100,11 @@ fn transfer(address: SocketAddr, file: &[u8]) -> Result<(Duration, Vec<u8>), Str
     let id = holder.lease().map_err(|error| error.to_string())?;
     let receiver = thread::spawn(move || {
         let mut received = Vec::new();
-        receive_file(&mut holder, &mut received, |_, _| ()).map(|_| received)
+        receive_file(&mut holder, &mut received, |_| ()).map(|_| received)
     });
     let mut sender = Peer::connect(address).map_err(|error| error.to_string())?;
     let start = Instant::now();
-    send_file(&mut sender, id, file, file.len() as u64, |_, _| ()).map_err(|error| error.to_string())?;
+    send_file(&mut sender, id, file, file.len() as u64, |_| ()).map_err(|error| error.to_string())?;
     let time = start.elapsed();
     let received = receiver.join().map_err(|_| "the receiver failed")?;
     Ok((time, received.map_err(|error| error.to_string())?))

@@ -4,10 +4,8 @@ mod bench;
 mod demo;
 mod output;
 mod peer;
-mod relay_address;
 mod serve;
 mod signals;
-mod stall;
 
 use std::ffi::OsString;
 use std::process::ExitCode;

@@ -1,19 +1,20 @@
 //! `crondelith peer`: receives or sends a file through a relay.
 
 use std::fs::File;
-use std::io::{stderr, stdout, IsTerminal, Stderr, Write};
+use std::io::{stdout, Write};
 use std::path::{Path, PathBuf};
 use std::time::Duration;
 
 use clap::{value_parser, Args, Subcommand};
 use codec::DATA_LIMIT;
-use peer::{confirm, receive_contents, send_contents, Error, Meter, PartFile, Peer, MESSAGE_SIZE};
+use peer::{
+    confirm, receive_contents, send_contents, Error, Fingerprint, Meter, PartFile, Patience, Peer, Progress,
+    RelayAddress, MESSAGE_SIZE,
+};
 use server::PARTNERS;
 
-use crate::relay_address::RelayAddress;
 use crate::serve::{DEFAULT_BASE_PORT, HIGHEST_BASE_PORT};
 use crate::signals::Watch;
-use crate::stall::StallWatch;
 use crate::{note, Failure, Outcome};
 
 const ABOUT: &str = "\
@@ -29,10 +30,12 @@ Sends a file to the peer that has the id.";
 const DETAILS: &str = "\
 With a port in '--relay', '--port' and '--partner' may not be given.
 
-The receiver writes to FILE with '.part' after its name and gives it its name once it is complete;
-otherwise it removes it. While it waits it extends its lease; if the relay doesn't extend it, it
-leases another id and prints that one too. The sender is done when the receiver has confirmed all
-bytes. A relay hands on 65,536 bytes a second for a partner whose allowance is used up.
+The receiver writes to a file beside FILE, of the same name with some letters and '.part' after it.
+Once that is complete and has the sender's digest it gets its name; otherwise it is removed. While it
+waits it extends its lease; if the relay doesn't extend it, it leases another id and prints that one
+too. The sender is done when the receiver has confirmed the file, with its digest. A relay hands on
+65,536 bytes a second for a partner whose allowance is used up. A transfer in which nothing moves for
+60 seconds says so.
 
 The exit status is 0 if the whole file has come, 1 if not, also when interrupted before (Ctrl-C),
 and 2 if the arguments are wrong or FILE is in the way.";
@@ -115,23 +118,23 @@ fn receive(file: &Path, options: &Options) -> Outcome {
     PartFile::check(file, options.force).map_err(in_the_way)?;
     let watch = Watch::start("interrupted before the whole file had come")?;
     let peer = options.connect(port, &watch)?;
-    let (mut peer, length) = receive_at(peer, file, options).map_err(|failure| watch.explain(failure))?;
-    confirm(&mut peer, length)
+    let (mut peer, kept) = receive_at(peer, file, options).map_err(|failure| watch.explain(failure))?;
+    confirm(&mut peer, &kept)
         .map_err(|error| Failure::Failed(format!("'{}' is complete, but {error}", file.display())))?;
     note(&format!("'{}' is complete", file.display()));
     finish(peer);
     Ok(())
 }
 
-/// Waits for a sender and writes its file, whose length it gives. The sender isn't told yet.
-fn receive_at(mut peer: Peer, file: &Path, options: &Options) -> Result<(Peer, u64), Failure> {
+/// Waits for a sender and keeps its file. The sender isn't told yet.
+fn receive_at(mut peer: Peer, file: &Path, options: &Options) -> Result<(Peer, Fingerprint), Failure> {
     let mut part = PartFile::create(file, options.force).map_err(|error| failed_at(file, error))?;
     print_id(peer.lease().map_err(failed)?)?;
     note("waiting for a sender; the id is its first argument");
     await_session(&mut peer)?;
-    let length = options.transfer(&mut peer, |peer, progress| receive_contents(peer, &mut part, progress))?;
-    part.keep().map_err(|error| failed_at(file, error))?;
-    Ok((peer, length))
+    let sent = show(|progress| receive_contents(&mut peer, &mut part, options.patience(), progress))?;
+    let kept = part.keep(&sent).map_err(|error| failed_at(file, error))?;
+    Ok((peer, kept))
 }
 
 fn await_session(peer: &mut Peer) -> Outcome {
@@ -154,10 +157,9 @@ fn send(id: u32, path: &Path, options: &Options) -> Outcome {
     let (file, length) = open(path)?;
     let watch = Watch::start("interrupted")?;
     let mut peer = options.connect(port, &watch)?;
-    let sent = peer
-        .establish(id)
-        .map_err(failed)
-        .and_then(|()| options.transfer(&mut peer, |peer, progress| send_contents(peer, file, length, size, progress)));
+    let established = peer.establish(id).map_err(failed);
+    let sent = established
+        .and_then(|()| show(|progress| send_contents(&mut peer, file, length, size, options.patience(), progress)));
     sent.map_err(|failure| watch.explain(failure))?;
     note("the receiver has confirmed the whole file");
     finish(peer);
@@ -179,7 +181,7 @@ fn open(path: &Path) -> Result<(File, u64), Failure> {
 impl Options {
     /// The port of the partner: told with the relay's address, or counted from that of partner 0.
     fn partner_port(&self) -> Result<u16, Failure> {
-        match self.relay.port {
+        match self.relay.port() {
             Some(_) if self.port.is_some() || self.partner.is_some() => Err(Failure::Usage(
                 "with a port in '--relay', which is the partner's, '--port' and '--partner' may not be given".into(),
             )),
@@ -190,29 +192,27 @@ impl Options {
 
     /// Connects to the relay. From then on a signal closes the connection.
     fn connect(&self, port: u16, watch: &Watch) -> Result<Peer, Failure> {
-        let host = self.relay.host.as_str();
+        let host = self.relay.host();
         let peer = Peer::connect((host, port));
         let peer = peer.map_err(|error| Failure::Failed(format!("{host} port {port}: {error}")))?;
         watch.connected(peer.closer());
         Ok(peer)
     }
 
-    /// Carries out a transfer in an established session: shows how far it is, and gives it up when it stands still.
-    fn transfer<T>(
-        &self,
-        peer: &mut Peer,
-        carry_out: impl FnOnce(&mut Peer, &mut dyn FnMut(u64, u64)) -> Result<T, Error>,
-    ) -> Result<T, Failure> {
+    /// How long a transfer may stand still.
+    fn patience(&self) -> Patience {
         let limit = self.timeout.map(|seconds| Duration::from_secs(seconds.into()));
-        let stall = StallWatch::start(limit, peer.closer()).map_err(failed)?;
-        let mut meter = begin_meter();
-        let outcome = carry_out(peer, &mut |done, total| {
-            stall.progress();
-            meter.update(done, total);
-        });
-        meter.end();
-        outcome.map_err(|error| stall.explain(failed(error)))
+        Patience { limit, ..Patience::default() }
     }
+}
+
+/// Shows how far a transfer in an established session is.
+fn show<T>(transfer: impl FnOnce(&mut dyn FnMut(Progress)) -> Result<T, Error>) -> Result<T, Failure> {
+    note("the session is established");
+    let mut meter = Meter::stderr();
+    let outcome = transfer(&mut |progress| meter.update(progress));
+    meter.end();
+    outcome.map_err(failed)
 }
 
 /// The id alone on a line of stdout, for a script to read.
@@ -220,11 +220,6 @@ fn print_id(id: u32) -> Outcome {
     let mut out = stdout();
     let printed = writeln!(out, "{id}").and_then(|()| out.flush());
     printed.map_err(|error| Failure::Failed(format!("the id {id} can't be printed: {error}")))
-}
-
-fn begin_meter() -> Meter<Stderr> {
-    note("the session is established");
-    Meter::new(stderr(), stderr().is_terminal())
 }
 
 /// The transfer is complete, so an error in parting changes nothing.

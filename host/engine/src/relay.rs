@@ -119,6 +119,7 @@ pub fn open(tables: Tables, now: u64, connection: u64, reply: &mut [u8]) -> Answ
 }
 
 /// Takes a message from a connection.
+#[inline]
 pub fn message(
     tables: Tables,
     now: u64,

@@ -15,6 +15,7 @@ pub const HEADER: usize = 3;
 const TYPE: u8 = 1;
 
 /// What stands before a message of this length. None above [`MESSAGE_LIMIT`].
+#[inline]
 pub fn header(length: usize) -> Option<[u8; HEADER]> {
     let [high, low] = u16::try_from(length + 1).ok()?.to_be_bytes();
     Some([high, low, TYPE])
@@ -28,6 +29,7 @@ pub fn append(message: &[u8], to: &mut Vec<u8>) -> Option<()> {
 }
 
 /// The length of the message whose frame these bytes begin with, once its header is there.
+#[inline]
 pub fn message_length(bytes: &[u8]) -> Result<Option<usize>, Error> {
     match *bytes {
         [0, 0, ..] => Err(Error::NoLength),

@@ -39,7 +39,8 @@ impl Incoming {
             Ok(Some(bytes)) => codec::decode(bytes).map(Some).ok_or_else(|| Error::malformed(bytes)),
             Ok(None) => Err(Error::Closed),
             Err(error) if error.is_timeout() => Ok(None),
-            Err(frames::Error::Io(error)) => Err(Error::Connection(error)),
+            Err(frames::Error::Io(error)) => Err(failed(error)),
+            Err(frames::Error::Cut) => Err(Error::ClosedMidway),
             Err(error) => Err(Error::Frame(error)),
         }
     }
@@ -50,11 +51,13 @@ impl Incoming {
 }
 
 impl Outgoing {
-    pub fn send(&mut self, message: &Message) -> Result<(), Error> {
+    /// Fails if the relay hasn't taken the message by the deadline. It may have taken a part of it then, so no other
+    /// message can follow.
+    pub fn send(&mut self, message: &Message, deadline: Option<Instant>) -> Result<(), Error> {
         let bytes = codec::encode(message).ok_or(Error::OutOfRange)?;
         self.frame.clear();
         frames::append(&bytes, &mut self.frame).ok_or(Error::OutOfRange)?;
-        (&*self.stream).write_all(&self.frame).map_err(Error::Connection)
+        Timed { stream: &self.stream, deadline }.write_all(&self.frame).map_err(failed)
     }
 
     pub fn stream(&self) -> &TcpStream {
@@ -63,7 +66,7 @@ impl Outgoing {
 
     /// Tells the relay that nothing more will come.
     pub fn end(&self) -> Result<(), Error> {
-        self.stream.shutdown(Shutdown::Write).map_err(Error::Connection)
+        self.stream.shutdown(Shutdown::Write).map_err(failed)
     }
 }
 
@@ -74,19 +77,47 @@ impl Closer {
     }
 }
 
-/// A stream whose reads end at the deadline, however many of them there are.
+/// Why a read or write failed. A relay that stops with bytes unread resets the connection.
+fn failed(error: io::Error) -> Error {
+    use io::ErrorKind::{BrokenPipe, ConnectionAborted, ConnectionReset, NotConnected};
+    match error.kind() {
+        BrokenPipe | ConnectionAborted | ConnectionReset | NotConnected => Error::ClosedMidway,
+        _ if frames::is_timeout(&error) => Error::NoAnswer,
+        _ => Error::Connection(error),
+    }
+}
+
+/// A stream whose reads or writes end at the deadline, however many of them there are.
 struct Timed<'a> {
     stream: &'a TcpStream,
     deadline: Option<Instant>,
 }
 
+impl Timed<'_> {
+    /// The time left. Without a deadline there is no end of it.
+    fn left(&self) -> io::Result<Option<Duration>> {
+        let left = self.deadline.map(|deadline| deadline.saturating_duration_since(Instant::now()));
+        match left {
+            Some(Duration::ZERO) => Err(io::ErrorKind::TimedOut.into()),
+            _ => Ok(left),
+        }
+    }
+}
+
 impl Read for Timed<'_> {
     fn read(&mut self, to: &mut [u8]) -> io::Result<usize> {
-        let left = self.deadline.map(|deadline| deadline.saturating_duration_since(Instant::now()));
-        if left == Some(Duration::ZERO) {
-            return Err(io::ErrorKind::TimedOut.into());
-        }
-        self.stream.set_read_timeout(left)?;
+        self.stream.set_read_timeout(self.left()?)?;
         self.stream.read(to)
+    }
+}
+
+impl Write for Timed<'_> {
+    fn write(&mut self, from: &[u8]) -> io::Result<usize> {
+        self.stream.set_write_timeout(self.left()?)?;
+        self.stream.write(from)
+    }
+
+    fn flush(&mut self) -> io::Result<()> {
+        self.stream.flush()
     }
 }

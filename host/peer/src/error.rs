@@ -1,9 +1,10 @@
 //! What can go wrong, in words.
 
 use std::path::PathBuf;
+use std::time::Duration;
 use std::{fmt, io};
 
-use crate::progress::grouped;
+use crate::progress::{grouped, standstill};
 use crate::session::refusal;
 
 #[derive(Debug)]
@@ -23,6 +24,8 @@ pub enum Error {
     NoAnswer,
     /// The relay closed the connection.
     Closed,
+    /// Likewise, but within a frame or with bytes unread, as a relay does that is stopped.
+    ClosedMidway,
     Connection(io::Error),
     Frame(frames::Error),
     /// A frame that holds no message of the protocol. An empty one has no type.
@@ -46,6 +49,12 @@ pub enum Error {
     NoLength,
     /// More bytes came than the sender had announced.
     TooMuch,
+    /// The message after the file's last byte isn't a digest.
+    NoDigest,
+    /// What the receiver has isn't what the sender sent.
+    Changed,
+    /// Nothing has moved for so long, which is the transfer's limit.
+    Stalled(Duration),
     /// The file to send can't be read.
     Read(io::Error),
     /// The file to send ended before its announced length.
@@ -54,6 +63,8 @@ pub enum Error {
     Longer,
     /// The file to receive can't be written.
     Write(io::Error),
+    /// What was written of it can't be read again.
+    ReadBack(io::Error),
     /// A file has the name already.
     Exists(PathBuf),
     /// Something that isn't a plain file has the name already.
@@ -96,7 +107,7 @@ impl fmt::Display for Error {
                 write!(to, "the relay speaks version {major}.{minor} of the protocol, this peer only 1.0")
             }
             Self::NoAnswer => write!(to, "the relay hasn't answered in time"),
-            Self::Closed => write!(to, "the relay closed the connection"),
+            Self::Closed | Self::ClosedMidway => write!(to, "the relay stopped or closed the connection"),
             Self::Connection(error) => write!(to, "the connection to the relay failed: {error}"),
             Self::Frame(error) => write!(to, "the relay's bytes are malformed: {error}"),
             Self::Malformed { kind, length } => write_malformed(*kind, *length, to),
@@ -107,10 +118,14 @@ impl fmt::Display for Error {
             Self::WrongCount => write!(to, "the other side's answer isn't a count of bytes that it can have"),
             Self::NoLength => write!(to, "the other side's first message isn't the length of a file"),
             Self::TooMuch => write!(to, "the other side sent more bytes than it had announced"),
+            Self::NoDigest => write!(to, "the other side's message after the file isn't a SHA-256 digest"),
+            Self::Changed => write!(to, "the received file isn't the one that was sent: their SHA-256 digests differ"),
+            Self::Stalled(time) => write!(to, "{}", standstill(*time)),
             Self::Read(error) => write!(to, "the file can't be read: {error}"),
             Self::Shorter => write!(to, "the file is shorter now than when its length was announced"),
             Self::Longer => write!(to, "the file is longer now than when its length was announced"),
             Self::Write(error) => write!(to, "the file can't be written: {error}"),
+            Self::ReadBack(error) => write!(to, "the file can't be read back after it was written: {error}"),
             Self::Exists(path) => write!(to, "'{}' exists already", path.display()),
             Self::NotPlain(path) => write!(to, "'{}' isn't a plain file", path.display()),
             Self::Thread(error) => write!(to, "a thread can't be started: {error}"),

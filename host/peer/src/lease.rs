@@ -87,8 +87,9 @@ impl Peer {
     }
 
     fn request_extension(&mut self) -> Result<(), Error> {
+        let deadline = self.answer_deadline();
         match &self.lease {
-            Some(lease) => self.outgoing.send(&Message::ExtensionRequest { cookie: &lease.cookie }),
+            Some(lease) => self.outgoing.send(&Message::ExtensionRequest { cookie: &lease.cookie }, Some(deadline)),
             None => Ok(()),
         }
     }

@@ -1,15 +1,22 @@
 //! A file that appears under its name only once it is complete.
 
-use std::ffi::OsString;
+use std::ffi::{OsStr, OsString};
 use std::fs::{self, File, OpenOptions};
-use std::io::{self, Write};
+use std::io::{self, Seek, Write};
+use std::os::unix::ffi::{OsStrExt, OsStringExt};
 use std::path::{Path, PathBuf};
 
-use crate::Error;
+use crate::disk::{Disk, SystemDisk};
+use crate::{Error, Fingerprint};
 
-/// A file that is written under its name with ".part" after it. Unless it is kept, dropping it removes it.
+/// The longest name of a file, in bytes.
+const NAME_LIMIT: usize = 255;
+
+/// A file that is written beside its later place, under a name of its own that ends in ".part". Unless it is kept,
+/// dropping it removes it.
 pub struct PartFile {
     file: File,
+    folder: File,
     part: PathBuf,
     whole: PathBuf,
     replace: bool,
@@ -19,35 +26,74 @@ pub struct PartFile {
 impl PartFile {
     /// Whether a file can take this name. An existing one is in the way unless it may be replaced.
     pub fn check(whole: &Path, replace: bool) -> Result<(), Error> {
-        for path in [whole, &part_of(whole)] {
-            match fs::symlink_metadata(path) {
-                Ok(found) if !found.is_file() => return Err(Error::NotPlain(path.to_owned())),
-                Ok(_) if !replace => return Err(Error::Exists(path.to_owned())),
-                // What else is wrong with the name shows when the file is created.
-                _ => {}
-            }
+        name_of(whole)?;
+        match fs::symlink_metadata(whole) {
+            Ok(found) if !found.is_file() => Err(Error::NotPlain(whole.to_owned())),
+            Ok(_) if !replace => Err(Error::Exists(whole.to_owned())),
+            // What else is wrong with the name shows when the file is created.
+            _ => Ok(()),
         }
-        Ok(())
     }
 
     pub fn create(whole: &Path, replace: bool) -> Result<Self, Error> {
-        let part = part_of(whole);
-        let mut options = OpenOptions::new();
-        options.write(true).create(replace).truncate(replace).create_new(!replace);
-        let file = options.open(&part).map_err(Error::Write)?;
-        Ok(Self { file, part, whole: whole.to_owned(), replace, kept: false })
+        let name = part_name(name_of(whole)?).map_err(Error::Write)?;
+        let folder = whole.parent().filter(|folder| !folder.as_os_str().is_empty()).unwrap_or(Path::new("."));
+        let part = folder.join(name);
+        // Opened now, so that a folder that can't be synced shows before the file comes.
+        let folder = File::open(folder).map_err(Error::Write)?;
+        // A new one, and not what a link of that name points to.
+        let file = OpenOptions::new().read(true).write(true).create_new(true).open(&part).map_err(Error::Write)?;
+        Ok(Self { file, folder, part, whole: whole.to_owned(), replace, kept: false })
     }
 
-    /// Gives the file its name, once its bytes are on the disk.
-    pub fn keep(&mut self) -> Result<(), Error> {
-        self.file.sync_all().map_err(Error::Write)?;
-        // It may have come to exist meanwhile.
-        if !self.replace && self.whole.symlink_metadata().is_ok() {
-            return Err(Error::Exists(self.whole.clone()));
-        }
-        fs::rename(&self.part, &self.whole).map_err(Error::Write)?;
+    /// Gives the file its name if it is the one that was sent. It is read back for that once its bytes are on the disk,
+    /// and its name is too when this returns. Gives what was kept.
+    pub fn keep(&mut self, sent: &Fingerprint) -> Result<Fingerprint, Error> {
+        self.keep_on(&SystemDisk, sent)
+    }
+
+    /// Likewise, by another disk's operations.
+    pub fn keep_on(&mut self, disk: &impl Disk, sent: &Fingerprint) -> Result<Fingerprint, Error> {
+        disk.sync(&self.file).map_err(Error::Write)?;
+        let written = self.read_back().map_err(Error::ReadBack)?;
+        written.check(sent)?;
+        self.name(disk).map_err(|error| match error.kind() {
+            io::ErrorKind::AlreadyExists => Error::Exists(self.whole.clone()),
+            _ => Error::Write(error),
+        })?;
         self.kept = true;
-        Ok(())
+        disk.sync(&self.folder).map_err(Error::Write)?;
+        Ok(written)
+    }
+
+    fn read_back(&mut self) -> io::Result<Fingerprint> {
+        self.file.rewind()?;
+        Fingerprint::read(&self.file)
+    }
+
+    /// Nothing lies between the test whether the name is free and taking it, but for a name that may be replaced.
+    fn name(&self, disk: &impl Disk) -> io::Result<()> {
+        if self.replace {
+            return disk.rename(&self.part, &self.whole);
+        }
+        match disk.link(&self.part, &self.whole) {
+            Ok(()) => {
+                // If its first name stays, the file is complete all the same.
+                let _ = disk.remove(&self.part);
+                Ok(())
+            }
+            Err(error) if error.kind() == io::ErrorKind::AlreadyExists => Err(error),
+            Err(_) => self.name_without_link(disk),
+        }
+    }
+
+    /// For a file system without hard links: an empty file reserves the name, and only that one is replaced.
+    fn name_without_link(&self, disk: &impl Disk) -> io::Result<()> {
+        disk.create_new(&self.whole)?;
+        disk.rename(&self.part, &self.whole).inspect_err(|_| {
+            // Nobody is left to tell if this fails.
+            let _ = disk.remove(&self.whole);
+        })
     }
 }
 
@@ -70,8 +116,25 @@ impl Drop for PartFile {
     }
 }
 
-fn part_of(whole: &Path) -> PathBuf {
-    let mut name = OsString::from(whole);
-    name.push(".part");
-    name.into()
+/// The name in the path. A path that ends in a slash or a dot is a folder's.
+fn name_of(whole: &Path) -> Result<&OsStr, Error> {
+    let name = whole.file_name().filter(|name| whole.as_os_str().as_bytes().ends_with(name.as_bytes()));
+    name.ok_or_else(|| Error::NotPlain(whole.to_owned()))
+}
+
+/// A name that no other file has: as much of the file's as fits, random digits and ".part".
+fn part_name(name: &OsStr) -> io::Result<OsString> {
+    let mut random = [0; 8];
+    getrandom::getrandom(&mut random)?;
+    let suffix = format!(".{:016x}.part", u64::from_be_bytes(random));
+    let mut part = start_of(name.as_bytes(), NAME_LIMIT - suffix.len()).to_owned();
+    part.extend(suffix.into_bytes());
+    Ok(OsString::from_vec(part))
+}
+
+/// At most so many bytes. No character of UTF-8 is cut, which some file systems would refuse.
+fn start_of(name: &[u8], limit: usize) -> &[u8] {
+    let starts_character = |place: &usize| name.get(*place).is_none_or(|byte| byte & 0xc0 != 0x80);
+    let end = (0..=limit.min(name.len())).rev().find(starts_character).unwrap_or(0);
+    &name[..end]
 }

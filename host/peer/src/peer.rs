@@ -12,37 +12,35 @@ use crate::Error;
 
 /// How long a connection may take that nothing answers.
 const CONNECT_WAIT: Duration = Duration::from_secs(10);
-/// How long the relay may take to answer. A used-up allowance delays it by seconds.
-pub(crate) const ANSWER_WAIT: Duration = Duration::from_secs(30);
+/// How long the relay may take to answer, unless another time is set. A used-up allowance delays it by seconds.
+const ANSWER_WAIT: Duration = Duration::from_secs(30);
 
 /// A peer whose version handshake is done.
 pub struct Peer {
     pub(crate) incoming: Incoming,
     pub(crate) outgoing: Outgoing,
     pub(crate) lease: Option<Lease>,
+    answer_wait: Duration,
 }
 
 impl Peer {
-    /// Connects to a relay's port, which says the partner.
+    /// Connects to a relay's port, which says the partner. A name is resolved, and its addresses are tried in order.
     pub fn connect(address: impl ToSocketAddrs) -> Result<Self, Error> {
         let stream = connect(address).map_err(Error::Unreachable)?;
         // Answers and the end of a session are small and shouldn't wait for more.
         stream.set_nodelay(true).map_err(Error::Connection)?;
         let (incoming, outgoing) = split(stream);
-        let mut peer = Self { incoming, outgoing, lease: None };
+        let mut peer = Self { incoming, outgoing, lease: None, answer_wait: ANSWER_WAIT };
         peer.shake_hands()?;
         Ok(peer)
     }
 
     fn shake_hands(&mut self) -> Result<(), Error> {
-        let version = match self.receive_by(Instant::now() + ANSWER_WAIT) {
+        let version = match self.receive_by(self.answer_deadline()) {
             Ok(Some(Message::ProtocolVersion { major, minor })) => (major, minor),
             Ok(Some(_)) => return Err(Error::NoVersion),
             Ok(None) => return Err(Error::NoAnswer),
-            Err(Error::Closed) => return Err(Error::ClosedBeforeVersion),
-            Err(Error::Connection(error)) if error.kind() == io::ErrorKind::ConnectionReset => {
-                return Err(Error::ClosedBeforeVersion)
-            }
+            Err(Error::Closed | Error::ClosedMidway) => return Err(Error::ClosedBeforeVersion),
             Err(error) => return Err(error),
         };
         let known = version == (1, 0);
@@ -51,8 +49,17 @@ impl Peer {
         known.then_some(()).ok_or(Error::UnknownVersion { major, minor })
     }
 
+    /// Sets how long the relay may take to take a message, to answer a request, and to end a session or connection.
+    pub fn set_answer_wait(&mut self, wait: Duration) {
+        self.answer_wait = wait;
+    }
+
+    pub(crate) fn answer_deadline(&self) -> Instant {
+        Instant::now() + self.answer_wait
+    }
+
     pub fn send(&mut self, message: &Message) -> Result<(), Error> {
-        self.outgoing.send(message)
+        self.outgoing.send(message, Some(self.answer_deadline()))
     }
 
     /// The next message. A Keepalive has been answered when it is handed out.
@@ -69,14 +76,14 @@ impl Peer {
     pub(crate) fn receive_until(&mut self, deadline: Option<Instant>) -> Result<Option<Message<'_>>, Error> {
         let message = self.incoming.receive(deadline)?;
         if message == Some(Message::Keepalive) {
-            self.outgoing.send(&Message::Keepalive)?;
+            self.outgoing.send(&Message::Keepalive, Some(Instant::now() + self.answer_wait))?;
         }
         Ok(message)
     }
 
     /// The relay's answer to a request: the first message that `pick` knows. Others are ignored.
     pub(crate) fn answer<T>(&mut self, pick: impl Fn(Message) -> Option<T>) -> Result<T, Error> {
-        let deadline = Instant::now() + ANSWER_WAIT;
+        let deadline = self.answer_deadline();
         loop {
             let message = self.receive_by(deadline)?.ok_or(Error::NoAnswer)?;
             if let Some(answer) = pick(message) {
@@ -97,10 +104,16 @@ impl Peer {
 
     /// Ends the connection in order: the relay has handed on all that was sent when it closes its side.
     pub fn finish(mut self) -> Result<(), Error> {
+        let deadline = self.answer_deadline();
         self.outgoing.end()?;
-        match self.answer(|_| None::<()>) {
-            Err(Error::Closed) | Ok(()) => Ok(()),
-            Err(error) => Err(error),
+        loop {
+            // Nothing can be answered any more, a Keepalive neither.
+            match self.incoming.receive(Some(deadline)) {
+                Ok(Some(_)) => {}
+                Ok(None) => return Err(Error::NoAnswer),
+                Err(Error::Closed) => return Ok(()),
+                Err(error) => return Err(error),
+            }
         }
     }
 }

@@ -1,7 +1,8 @@
 //! How far a transfer is, as a line of text.
 
 use std::collections::VecDeque;
-use std::io::Write;
+use std::io::{stderr, Stderr, Write};
+use std::mem;
 use std::time::{Duration, Instant};
 
 /// How often the line is redrawn on a terminal.
@@ -10,6 +11,18 @@ const REDRAW: Duration = Duration::from_millis(250);
 const REPEAT: Duration = Duration::from_secs(5);
 /// The rate is that of the last seconds, since a relay lets a burst through first.
 const WINDOW: Duration = Duration::from_secs(5);
+
+/// The width of a terminal that doesn't tell it.
+const USUAL_COLUMNS: usize = 80;
+
+/// What a transfer tells of itself.
+#[derive(Clone, Copy, Debug, PartialEq, Eq)]
+pub enum Progress {
+    /// So many bytes of the file are there.
+    Moved { done: u64, total: u64 },
+    /// Nothing has moved for so long. It is told once, until something moves again.
+    Stalled(Duration),
+}
 
 /// The line: bytes, percent, rate and time left, as far as they are known.
 pub fn text(done: u64, total: u64, rate: Option<f64>) -> String {
@@ -35,6 +48,11 @@ pub fn grouped(number: u64) -> String {
     groups.join(",")
 }
 
+/// That nothing moves, in words.
+pub(crate) fn standstill(time: Duration) -> String {
+    format!("nothing has moved for {} s", time.as_secs())
+}
+
 fn rate_text(rate: f64) -> String {
     match rate {
         _ if rate < 1e3 => format!("{rate:.0} B/s"),
@@ -54,39 +72,66 @@ fn clock(seconds: f64) -> String {
     }
 }
 
+/// The columns of the terminal that stderr is, or None if it is none.
+fn stderr_columns() -> Option<usize> {
+    let size = rustix::termios::tcgetwinsize(stderr()).ok()?;
+    // A terminal that doesn't know its size says 0.
+    Some(if size.ws_col == 0 { USUAL_COLUMNS } else { size.ws_col.into() })
+}
+
 /// Shows the line: redrawn in place on a terminal, else a new one now and then.
 pub struct Meter<W: Write> {
     to: W,
-    terminal: bool,
+    /// The terminal's columns, which may change, or None if it is none.
+    columns: fn() -> Option<usize>,
     start: Instant,
     shown: Duration,
-    /// The length of the line on the terminal, which the next one has to cover.
-    width: usize,
+    /// Whether the terminal's line has to be left.
+    within_line: bool,
     /// Moments of the last seconds and the bytes done by then.
     samples: VecDeque<(Duration, u64)>,
     last: Option<(u64, u64)>,
 }
 
+impl Meter<Stderr> {
+    pub fn stderr() -> Self {
+        Self::new(stderr(), stderr_columns)
+    }
+}
+
 impl<W: Write> Meter<W> {
-    pub fn new(to: W, terminal: bool) -> Self {
+    pub fn new(to: W, columns: fn() -> Option<usize>) -> Self {
         let samples = VecDeque::from([(Duration::ZERO, 0)]);
-        Self { to, terminal, start: Instant::now(), shown: Duration::ZERO, width: 0, samples, last: None }
+        let (start, shown) = (Instant::now(), Duration::ZERO);
+        Self { to, columns, start, shown, within_line: false, samples, last: None }
     }
 
-    pub fn update(&mut self, done: u64, total: u64) {
-        self.update_at(self.start.elapsed(), done, total);
+    pub fn update(&mut self, progress: Progress) {
+        self.update_at(self.start.elapsed(), progress);
     }
 
     /// Likewise, with the time since the start.
-    pub fn update_at(&mut self, now: Duration, done: u64, total: u64) {
+    pub fn update_at(&mut self, now: Duration, progress: Progress) {
+        match progress {
+            Progress::Moved { done, total } => self.moved(now, done, total),
+            Progress::Stalled(time) => self.stalled(time),
+        }
+    }
+
+    fn moved(&mut self, now: Duration, done: u64, total: u64) {
         self.last = Some((done, total));
-        let interval = if self.terminal { REDRAW } else { REPEAT };
+        let interval = if (self.columns)().is_some() { REDRAW } else { REPEAT };
         if now.saturating_sub(self.shown) < interval {
             return;
         }
         self.shown = now;
         let rate = self.rate(now, done);
         self.show(&text(done, total, rate));
+    }
+
+    fn stalled(&mut self, time: Duration) {
+        let bytes = self.last.map(|(done, total)| format!("; {}", text(done, total, None)));
+        self.show(&(standstill(time) + &bytes.unwrap_or_default()));
     }
 
     /// Shows where the transfer ended, with the rate over all of it, and leaves the line.
@@ -96,9 +141,10 @@ impl<W: Write> Meter<W> {
 
     /// Likewise, with the time since the start.
     pub fn end_at(&mut self, now: Duration) {
-        let Some((done, total)) = self.last.take() else { return };
-        self.show(&text(done, total, rate(now, done)));
-        if self.terminal {
+        if let Some((done, total)) = self.last.take() {
+            self.show(&text(done, total, rate(now, done)));
+        }
+        if mem::take(&mut self.within_line) {
             let _ = writeln!(self.to);
         }
     }
@@ -116,13 +162,21 @@ impl<W: Write> Meter<W> {
 
     /// A line that can't be shown is no reason to end a transfer.
     fn show(&mut self, line: &str) {
-        let _ = match self.terminal {
-            true => write!(self.to, "\r{line:width$}", width = self.width),
-            false => writeln!(self.to, "{line}"),
+        let columns = (self.columns)();
+        let _ = match columns {
+            Some(columns) => write!(self.to, "\r{}", fitted(line, columns)),
+            None => writeln!(self.to, "{line}"),
         };
         let _ = self.to.flush();
-        self.width = line.len();
+        self.within_line = columns.is_some();
     }
+}
+
+/// The line cut or filled up to the terminal's width, so that it covers the one before. The last column stays free,
+/// since a character there makes some terminals begin another line.
+fn fitted(line: &str, columns: usize) -> String {
+    let width = columns.saturating_sub(1);
+    format!("{line:width$.width$}")
 }
 
 fn rate(elapsed: Duration, bytes: u64) -> Option<f64> {

@@ -1,14 +1,18 @@
 //! Sending a file over a session.
 
 use std::io::Read;
+use std::sync::atomic::{AtomicU64, Ordering};
 use std::sync::mpsc::{self, Receiver, Sender};
+use std::sync::OnceLock;
 use std::thread;
 use std::time::Duration;
 
 use codec::{Message, DATA_LIMIT};
 
-use crate::connection::{Incoming, Outgoing};
-use crate::{Error, Peer, COUNT_LENGTH};
+use crate::connection::{Closer, Incoming, Outgoing};
+use crate::fingerprint::Hasher;
+use crate::patience::Stall;
+use crate::{Error, Fingerprint, Patience, Peer, Progress};
 
 /// The bytes of a file that a message carries, unless another size is asked for.
 pub const MESSAGE_SIZE: usize = 16_384;
@@ -23,162 +27,236 @@ const REASON_WAIT: Duration = Duration::from_secs(1);
 pub fn send_file(
     peer: &mut Peer,
     id: u32,
-    reader: impl Read,
+    reader: impl Read + Send,
     length: u64,
-    progress: impl FnMut(u64, u64),
+    progress: impl FnMut(Progress),
 ) -> Result<(), Error> {
     peer.establish(id)?;
-    send_contents(peer, reader, length, MESSAGE_SIZE, progress)
+    send_contents(peer, reader, length, MESSAGE_SIZE, Patience::default(), progress)
 }
 
 /// Likewise in a session that is established already, with another message size (1 to 65,533).
 pub fn send_contents(
     peer: &mut Peer,
-    reader: impl Read,
+    reader: impl Read + Send,
     length: u64,
     message_size: usize,
-    mut progress: impl FnMut(u64, u64),
+    patience: Patience,
+    progress: impl FnMut(Progress),
 ) -> Result<(), Error> {
-    let mut arrived = 0;
-    let source = Source::new(reader, length, message_size);
-    let outcome = with_watch(peer, length, |link| {
-        link.send_all(source, |count| {
-            arrived = count;
-            progress(count, length);
-        })
-    });
-    outcome.map_err(|cause| Error::Sending { arrived, length, cause: cause.into() })?;
+    let transfer = Transfer::new(length, peer.closer());
+    transfer.run(peer, Source::new(reader, length, message_size), Stall::new(patience), progress)?;
     // The file is there. If the relay is gone by now, the session is over as well.
     let _ = peer.end_session();
     Ok(())
 }
 
-/// Sends while another thread reads, so that a session's end is noticed even while a write waits.
-fn with_watch(peer: &mut Peer, length: u64, send: impl FnOnce(&mut Link) -> Result<(), Error>) -> Result<(), Error> {
-    let closer = peer.closer();
-    let Peer { incoming, outgoing, .. } = peer;
-    let (to_sender, events) = mpsc::channel();
-    thread::scope(|scope| {
-        thread::Builder::new().spawn_scoped(scope, || watch(incoming, length, to_sender)).map_err(Error::Thread)?;
-        let outcome = send(&mut Link { outgoing, events, sent: 0, arrived: None });
-        if outcome.is_err() {
-            // The other thread ends with the connection.
-            closer.close();
-        }
-        outcome
-    })
+/// What the thread that sends and the one that watches what comes have in common.
+struct Transfer {
+    length: u64,
+    closer: Closer,
+    /// Bytes of the file that were given to the connection.
+    sent: AtomicU64,
+    /// What was sent, once it is all of it.
+    fingerprint: OnceLock<Fingerprint>,
+    /// Why the transfer failed: the first reason, of which others follow.
+    cause: OnceLock<Error>,
 }
 
-/// What the reading thread tells the sending one.
+impl Transfer {
+    fn new(length: u64, closer: Closer) -> Self {
+        Self { length, closer, sent: AtomicU64::new(0), fingerprint: OnceLock::new(), cause: OnceLock::new() }
+    }
+
+    /// Sends in another thread, so that what comes, or doesn't, is noticed even while a write waits.
+    fn run(
+        self,
+        peer: &mut Peer,
+        source: Source<impl Read + Send>,
+        stall: Stall,
+        progress: impl FnMut(Progress),
+    ) -> Result<(), Error> {
+        let Peer { incoming, outgoing, .. } = peer;
+        let (to_sending, events) = mpsc::channel();
+        let mut sending = Sending { transfer: &self, outgoing, events, arrived: None };
+        let watch = Watch { transfer: &self, to_sending, stall, progress, arrived: None };
+        let confirmed = thread::scope(|scope| {
+            let spawned = thread::Builder::new().spawn_scoped(scope, move || sending.run(source));
+            if let Err(error) = spawned {
+                self.fail(Error::Thread(error));
+            }
+            watch.run(incoming)
+        });
+        confirmed.map_err(|arrived| {
+            let (length, cause) = (self.length, self.cause.into_inner().unwrap_or(Error::Closed).into());
+            Error::Sending { arrived, length, cause }
+        })
+    }
+
+    /// Closes the connection, with which either thread ends.
+    fn fail(&self, error: Error) {
+        let _ = self.cause.set(error);
+        self.closer.close();
+    }
+}
+
+/// What the watching thread tells the sending one.
 enum Event {
     Keepalive,
     /// The bytes that the receiver has.
     Counted(u64),
-    Failed(Error),
 }
 
-/// Reads until the receiver has the whole length, or an error. The latter closes the connection, so that a write that
-/// waits ends.
-fn watch(incoming: &mut Incoming, length: u64, events: Sender<Event>) {
-    let closer = incoming.closer();
-    loop {
-        let event = match incoming.receive(None) {
-            Ok(Some(Message::Keepalive)) => Event::Keepalive,
-            Ok(Some(Message::DataReceive { data })) => counted(data),
-            Ok(Some(Message::SessionEndNotification)) => Event::Failed(Error::SessionEnded),
-            Ok(_) => continue,
-            Err(error) => Event::Failed(error),
-        };
-        let failed = matches!(event, Event::Failed(_));
-        let last = failed || matches!(event, Event::Counted(count) if count == length);
-        let heard = events.send(event).is_ok();
-        if failed {
-            closer.close();
-        }
-        if last || !heard {
-            return;
-        }
-    }
-}
-
-fn counted(data: &[u8]) -> Event {
-    match <[u8; COUNT_LENGTH]>::try_from(data) {
-        Ok(count) => Event::Counted(u64::from_be_bytes(count)),
-        Err(_) => Event::Failed(Error::WrongCount),
-    }
-}
-
-/// The sending thread's side.
-struct Link<'a> {
-    outgoing: &'a mut Outgoing,
-    events: Receiver<Event>,
-    sent: u64,
+/// The watching thread's side.
+struct Watch<'a, P> {
+    transfer: &'a Transfer,
+    to_sending: Sender<Event>,
+    stall: Stall,
+    progress: P,
     /// The receiver's last count. None, before the first, is below every count.
     arrived: Option<u64>,
 }
 
-impl Link<'_> {
-    fn send_all(&mut self, mut source: Source<impl Read>, mut progress: impl FnMut(u64)) -> Result<(), Error> {
-        source.load()?;
-        self.send(&source.length.to_be_bytes())?;
-        progress(0);
-        while !source.chunk.is_empty() {
-            self.await_count(self.sent.checked_sub(WINDOW), &mut progress)?;
-            self.send(&source.chunk)?;
-            self.sent += source.chunk.len() as u64;
-            source.load()?;
-        }
-        self.await_count(Some(source.length), &mut progress)
+impl<P: FnMut(Progress)> Watch<'_, P> {
+    /// Watches until the receiver has confirmed the file. Gives the bytes that have arrived if it doesn't. The sending
+    /// thread is told by the end of its events, when the reason is known.
+    fn run(mut self, incoming: &mut Incoming) -> Result<(), u64> {
+        self.watch(incoming).map_err(|error| {
+            self.transfer.fail(error);
+            self.arrived.unwrap_or_default()
+        })
     }
 
-    /// Takes what has come, and waits until the receiver has counted so many bytes: as long as the session lasts, since
-    /// what was sent may wait for the partner's allowance.
-    fn await_count(&mut self, count: Option<u64>, progress: &mut impl FnMut(u64)) -> Result<(), Error> {
+    fn watch(&mut self, incoming: &mut Incoming) -> Result<(), Error> {
+        self.moved(0);
         loop {
-            let event = match self.events.try_recv() {
-                Ok(event) => event,
-                Err(_) if self.arrived >= count => return Ok(()),
-                Err(_) => self.events.recv().map_err(|_| Error::Closed)?,
-            };
-            match event {
-                Event::Keepalive => self.outgoing.send(&Message::Keepalive)?,
-                Event::Counted(count) => {
-                    self.count(count)?;
-                    progress(count);
-                }
-                Event::Failed(error) => return Err(error),
+            match incoming.receive(self.stall.deadline())? {
+                Some(Message::Keepalive) => self.tell(Event::Keepalive),
+                Some(Message::DataReceive { data }) => match Fingerprint::from_bytes(data) {
+                    Some(kept) => return self.confirm(&kept),
+                    None => self.count(data)?,
+                },
+                Some(Message::SessionEndNotification) => return Err(Error::SessionEnded),
+                Some(_) => {}
+                None => self.stall.check(&mut self.progress)?,
             }
         }
     }
 
     /// A count grows, and can't be above what was sent.
-    fn count(&mut self, count: u64) -> Result<(), Error> {
-        if self.arrived >= Some(count) || count > self.sent {
+    fn count(&mut self, data: &[u8]) -> Result<(), Error> {
+        let count = u64::from_be_bytes(data.try_into().map_err(|_| Error::WrongCount)?);
+        if self.arrived >= Some(count) || count > self.transfer.sent.load(Ordering::Acquire) {
             return Err(Error::WrongCount);
         }
         self.arrived = Some(count);
+        self.stall.end();
+        self.tell(Event::Counted(count));
+        self.moved(count);
         Ok(())
     }
 
-    fn send(&mut self, data: &[u8]) -> Result<(), Error> {
-        self.outgoing.send(&Message::DataSend { data }).map_err(|error| self.reason(error))
+    /// Only the whole file can be confirmed.
+    fn confirm(&mut self, kept: &Fingerprint) -> Result<(), Error> {
+        let sent = self.transfer.fingerprint.get().filter(|sent| sent.length == kept.length);
+        kept.check(sent.ok_or(Error::WrongCount)?)?;
+        self.moved(kept.length);
+        Ok(())
     }
 
-    /// Why a write failed: what the relay said last tells more than the write's own error.
-    fn reason(&self, error: Error) -> Error {
-        while let Ok(event) = self.events.recv_timeout(REASON_WAIT) {
-            if let Event::Failed(reason) = event {
-                return reason;
-            }
+    fn moved(&mut self, done: u64) {
+        (self.progress)(Progress::Moved { done, total: self.transfer.length });
+    }
+
+    fn tell(&self, event: Event) {
+        // If the sending thread has failed, the connection's end comes next.
+        let _ = self.to_sending.send(event);
+    }
+}
+
+/// The sending thread's side.
+struct Sending<'a> {
+    transfer: &'a Transfer,
+    outgoing: &'a mut Outgoing,
+    events: Receiver<Event>,
+    /// The receiver's last count, as for the watching thread.
+    arrived: Option<u64>,
+}
+
+impl Sending<'_> {
+    fn run(&mut self, source: Source<impl Read>) {
+        if let Err(error) = self.send_all(source) {
+            self.transfer.fail(error);
         }
-        error
+    }
+
+    /// Sends the file and its digest.
+    fn send_all(&mut self, mut source: Source<impl Read>) -> Result<(), Error> {
+        let (mut sent, mut hasher) = (0_u64, Hasher::default());
+        source.load()?;
+        self.send_data(&self.transfer.length.to_be_bytes())?;
+        while !source.chunk.is_empty() {
+            self.await_count(sent.checked_sub(WINDOW))?;
+            sent += source.chunk.len() as u64;
+            // Before the bytes are sent, since they may be counted at once.
+            self.transfer.sent.store(sent, Ordering::Release);
+            self.send_data(&source.chunk)?;
+            hasher.update(&source.chunk);
+            source.load()?;
+        }
+        let fingerprint = self.transfer.fingerprint.get_or_init(|| hasher.finish());
+        self.send_data(&fingerprint.digest)?;
+        self.take_all()
+    }
+
+    /// Takes what has come, and waits until the receiver has counted so many bytes.
+    fn await_count(&mut self, count: Option<u64>) -> Result<(), Error> {
+        loop {
+            let event = match self.events.try_recv() {
+                Ok(event) => event,
+                Err(_) if self.arrived >= count => return Ok(()),
+                // At the end of the events the watching thread has a better reason.
+                Err(_) => self.events.recv().map_err(|_| Error::Closed)?,
+            };
+            self.take(event)?;
+        }
+    }
+
+    /// Takes what comes until the watching thread ends.
+    fn take_all(&mut self) -> Result<(), Error> {
+        while let Ok(event) = self.events.recv() {
+            self.take(event)?;
+        }
+        Ok(())
+    }
+
+    fn take(&mut self, event: Event) -> Result<(), Error> {
+        match event {
+            Event::Keepalive => self.send(&Message::Keepalive)?,
+            Event::Counted(count) => self.arrived = Some(count),
+        }
+        Ok(())
+    }
+
+    fn send_data(&mut self, data: &[u8]) -> Result<(), Error> {
+        self.send(&Message::DataSend { data })
+    }
+
+    /// It may wait for the partner's allowance, as long as the watching thread lets it.
+    fn send(&mut self, message: &Message) -> Result<(), Error> {
+        self.outgoing.send(message, None).inspect_err(|_| self.await_reason())
+    }
+
+    /// What the relay said before a write failed tells more than the write's error, so the watching thread may end
+    /// first.
+    fn await_reason(&self) {
+        while self.events.recv_timeout(REASON_WAIT).is_ok() {}
     }
 }
 
 /// A file to send, in chunks.
 struct Source<R> {
     reader: R,
-    length: u64,
     left: u64,
     message_size: u64,
     /// Empty at the end.
@@ -188,7 +266,7 @@ struct Source<R> {
 impl<R: Read> Source<R> {
     fn new(reader: R, length: u64, message_size: usize) -> Self {
         let message_size = message_size.clamp(1, DATA_LIMIT) as u64;
-        Self { reader, length, left: length, message_size, chunk: Vec::new() }
+        Self { reader, left: length, message_size, chunk: Vec::new() }
     }
 
     /// Loads the next chunk. That the file ends where announced is known before its last chunk can be sent, so that the

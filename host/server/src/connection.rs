@@ -10,6 +10,9 @@ use mio::net::TcpStream;
 use crate::input::Input;
 use crate::refusal::Refusal;
 
+/// Type of SessionEnd, the one message that costs nothing: it is offered at once, whoever waits.
+pub const SESSION_END: u8 = 9;
+
 pub struct Connection {
     pub stream: TcpStream,
     pub address: SocketAddr,
@@ -79,6 +82,12 @@ impl Connection {
     /// Whether messages are taken from it, as far as it is concerned.
     pub fn is_taken_from(&self) -> bool {
         self.hold.is_none() && matches!(self.phase, Phase::Greeted | Phase::Open)
+    }
+
+    /// Whether a SessionEnd can be taken from it.
+    pub fn has_session_end(&self) -> bool {
+        let first = self.input.message().and_then(|message| message.first());
+        first == Some(&SESSION_END) && self.is_taken_from()
     }
 }
 

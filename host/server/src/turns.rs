@@ -41,16 +41,17 @@ impl Turns {
         self.credit[connection % CONNECTIONS_EACH] = 0;
     }
 
-    /// Whether the one whose turn it is may spend this much. If not yet, the turn passes on.
-    pub fn affords(&mut self, cost: usize) -> bool {
-        let Some(first) = self.queue.front() else { return false };
-        let credit = &mut self.credit[first % CONNECTIONS_EACH];
-        let enough = *credit >= cost;
-        if !enough {
-            *credit += QUANTUM;
+    /// What a connection may spend in this turn of its own.
+    pub fn credit(&self, connection: usize) -> usize {
+        self.credit[connection % CONNECTIONS_EACH]
+    }
+
+    /// Passes the turn on from a connection that can't afford its next message yet.
+    pub fn pass_on(&mut self, connection: usize) {
+        if self.queue.front() == Some(&connection) {
+            self.credit[connection % CONNECTIONS_EACH] += QUANTUM;
             self.queue.rotate_left(1);
         }
-        enough
     }
 
     /// It has spent what it could afford.
@@ -64,18 +65,24 @@ impl Turns {
 mod tests {
     use super::Turns;
 
+    /// Passes the turn on until somebody can afford what it offers.
+    fn next_that_affords(turns: &mut Turns, cost: impl Fn(usize) -> usize) -> usize {
+        loop {
+            let next = turns.next().expect("somebody");
+            if turns.credit(next) >= cost(next) {
+                return next;
+            }
+            turns.pass_on(next);
+        }
+    }
+
     /// Who spends what in so many rounds, if each offers messages of its cost without end.
     fn spent(costs: &[usize], messages: usize) -> Vec<usize> {
         let mut turns = Turns::default();
         (0..costs.len()).for_each(|connection| turns.join(connection));
         let mut spent = vec![0; costs.len()];
         for _ in 0..messages {
-            let next = loop {
-                let next = turns.next().expect("somebody");
-                if turns.affords(costs[next]) {
-                    break next;
-                }
-            };
+            let next = next_that_affords(&mut turns, |connection| costs[connection]);
             turns.spend(next, costs[next]);
             spent[next] += costs[next];
         }
@@ -109,9 +116,10 @@ mod tests {
     fn nothing_is_saved_up_by_who_has_nothing_to_offer() {
         let mut turns = Turns::default();
         turns.join(0);
-        assert!(!turns.affords(5_000) && !turns.affords(5_000) && turns.affords(5_000));
+        next_that_affords(&mut turns, |_| 5_000);
+        assert!(turns.credit(0) >= 5_000);
         turns.leave(0);
         turns.join(0);
-        assert!(!turns.affords(1));
+        assert_eq!(turns.credit(0), 0);
     }
 }

@@ -1,12 +1,14 @@
 //! Connecting, leasing and establishing, with a relay that does as it should and one that doesn't.
 
-use std::net::TcpListener;
+use std::net::{SocketAddr, TcpListener};
+use std::sync::mpsc;
+use std::thread::{self, JoinHandle};
 use std::time::{Duration, Instant, SystemTime, UNIX_EPOCH};
 
-use codec::Message;
-use peer::{extension_wait, Error, Peer};
+use codec::{Message, DATA_LIMIT};
+use peer::{confirm, extension_wait, receive_contents, Error, Patience, Peer};
 
-use crate::support::{assert_words, scripted, Connection, COOKIE, ID, LATER, SESSION, VERSION};
+use crate::support::{assert_words, fingerprint, scripted, Connection, COOKIE, ID, LATER, SESSION, VERSION};
 
 /// The error of connecting to a relay that does this with the connection.
 #[track_caller]
@@ -36,8 +38,24 @@ fn nothing_listens() {
 }
 
 #[test]
+fn each_address_of_a_name_is_tried() {
+    let nobody = TcpListener::bind("127.0.0.1:0").and_then(|listener| listener.local_addr()).expect("a free port");
+    let (address, relay) = scripted(|mut connection| connection.shake_hands());
+    Peer::connect(&[nobody, address][..]).expect("a handshake");
+    relay.join().expect("the relay");
+    let (address, relay) = scripted(|mut connection| connection.shake_hands());
+    Peer::connect(("localhost", address.port())).expect("a handshake");
+    relay.join().expect("the relay");
+    // Longer than a name can be.
+    let nowhere = Peer::connect(("x".repeat(300).as_str(), 1));
+    assert_words(nowhere.err().expect("no name"), &["there is no connection", "lookup"]);
+}
+
+#[test]
 fn closed_before_the_version() {
-    assert_words(connect_error(drop), &["before its version message", "all eight connections", "allowance"]);
+    let words = ["before its version message", "all eight connections", "allowance"];
+    assert_words(connect_error(drop), &words);
+    assert_words(connect_error(|mut connection| connection.send_raw(&[0, 9, 1])), &words);
 }
 
 #[test]
@@ -62,7 +80,6 @@ fn another_first_message() {
 fn malformed_bytes() {
     assert_words(connect_error(|mut connection| connection.send_raw(b"HTTP/1.1")), &["malformed", "type 84"]);
     assert_words(connect_error(|mut connection| connection.send_raw(&[0, 0])), &["malformed", "length 0"]);
-    assert_words(connect_error(|mut connection| connection.send_raw(&[0, 9, 1])), &["malformed", "within a frame"]);
     assert_words(connect_error(|mut connection| connection.send_raw(&[0, 1, 1])), &["malformed", "empty"]);
     assert_words(
         connect_error(|mut connection| connection.send_raw(&[0, 3, 1, 3, 2])),
@@ -89,6 +106,22 @@ fn an_unexpected_message_is_ignored_and_a_keepalive_answered() {
         connection.send(Message::LeaseGranted { id: 5, cookie: &COOKIE, expiration: LATER });
     });
     assert_eq!(id.expect("a lease"), 5);
+}
+
+#[test]
+fn a_keepalive_is_answered_however_long_nothing_has_come() {
+    let wait = Duration::from_millis(100);
+    let (address, relay) = scripted(move |mut connection| {
+        connection.shake_hands();
+        thread::sleep(3 * wait);
+        connection.send(Message::Keepalive);
+        connection.expect(Message::Keepalive);
+        connection.send(Message::EstablishNotification { session: SESSION });
+    });
+    let mut peer = Peer::connect(address).expect("a handshake");
+    peer.set_answer_wait(wait);
+    peer.await_session(|_| panic!("no new id")).expect("a session");
+    relay.join().expect("the relay");
 }
 
 #[test]
@@ -142,7 +175,7 @@ fn a_lease_is_extended_and_else_another_id_leased() {
         connection.grant_lease(soon);
         connection.expect(Message::ExtensionRequest { cookie: &COOKIE });
         let asked = Instant::now();
-        connection.send(Message::ExtensionGranted { expiration: soon + 4 });
+        connection.send(Message::ExtensionGranted { expiration: soon + 6 });
         connection.expect(Message::ExtensionRequest { cookie: &COOKIE });
         // Half of what the extension left, and not of the first lease.
         assert!(asked.elapsed() > Duration::from_millis(1_500));
@@ -184,12 +217,101 @@ fn a_session_that_comes_before_the_extension() {
         connection.send(Message::EstablishNotification { session: SESSION });
         connection.send(Message::ExtensionRefused);
         connection.send(Message::DataReceive { data: &[0; 8] });
+        connection.send(Message::DataReceive { data: &fingerprint(b"").digest });
         connection.drain();
     });
     let mut peer = Peer::connect(address).expect("a handshake");
     peer.lease().expect("a lease");
     peer.await_session(|_| panic!("no new id")).expect("a session");
-    assert_eq!(peer::receive_contents(&mut peer, Vec::new(), |_, _| ()).expect("an empty file"), 0);
+    let sent = receive_contents(&mut peer, Vec::new(), Patience::default(), |_| ()).expect("an empty file");
+    assert_eq!(sent, fingerprint(b""));
+    drop(peer);
+    relay.join().expect("the relay");
+}
+
+/// A relay that says this, time and again, until the peer has gone.
+fn endless(message: Message<'static>) -> (SocketAddr, JoinHandle<()>) {
+    scripted(move |mut connection| {
+        connection.shake_hands();
+        while connection.try_send(message) {
+            thread::sleep(Duration::from_millis(10));
+        }
+    })
+}
+
+/// The relay's side stays open.
+#[test]
+fn the_end_of_a_connection_is_awaited_for_a_time_only() {
+    for message in [Message::Keepalive, VERSION] {
+        let (address, relay) = endless(message);
+        let mut peer = Peer::connect(address).expect("a handshake");
+        peer.set_answer_wait(Duration::from_millis(300));
+        let start = Instant::now();
+        assert_words(peer.finish().expect_err("no end"), &["hasn't answered in time"]);
+        assert!(start.elapsed() < Duration::from_secs(5), "{:?}", start.elapsed());
+        relay.join().expect("the relay");
+    }
+}
+
+#[test]
+fn a_keepalive_does_no_harm_at_the_end_of_a_connection() {
+    let (address, relay) = scripted(|mut connection| {
+        connection.shake_hands();
+        connection.send(Message::Keepalive);
+        assert_eq!(connection.next(), None);
+        connection.send(Message::Keepalive);
+    });
+    Peer::connect(address).expect("a handshake").finish().expect("the end");
+    relay.join().expect("the relay");
+}
+
+/// What was sent last may be lost then.
+#[test]
+fn a_relay_that_leaves_bytes_unread_ends_no_connection_in_order() {
+    let (address, relay) = scripted(|mut connection| {
+        connection.shake_hands();
+        connection.send(Message::SessionEndNotification);
+        connection.await_bytes();
+    });
+    let mut peer = Peer::connect(address).expect("a handshake");
+    // The relay has read all that has come by then.
+    assert_eq!(peer.receive().expect("a message"), Message::SessionEndNotification);
+    peer.end_session().expect("a connection");
+    assert!(matches!(peer.finish(), Err(Error::ClosedMidway)));
+    relay.join().expect("the relay");
+}
+
+/// What the peer sends fills the buffers, since the relay reads none of it.
+#[test]
+fn a_relay_that_takes_nothing_is_waited_for_for_a_time_only() {
+    let (done, wait) = mpsc::channel::<()>();
+    let (address, relay) = scripted(move |mut connection| {
+        connection.shake_hands();
+        let _ = wait.recv();
+    });
+    let mut peer = Peer::connect(address).expect("a handshake");
+    peer.set_answer_wait(Duration::from_millis(300));
+    for length in [DATA_LIMIT, 1] {
+        let data = vec![1; length];
+        let error = (0..100_000).find_map(|_| peer.send(&Message::DataSend { data: &data }).err());
+        assert_words(error.expect("full buffers"), &["hasn't answered in time"]);
+    }
+    let start = Instant::now();
+    assert_words(confirm(&mut peer, &fingerprint(b"abc")).expect_err("not taken"), &["hasn't answered in time"]);
+    assert!(start.elapsed() < Duration::from_secs(5), "{:?}", start.elapsed());
+    drop(done);
+    relay.join().expect("the relay");
+}
+
+/// The session never ends, and what comes is nothing that the receiver waits for.
+#[test]
+fn the_end_of_a_session_is_awaited_for_a_time_only() {
+    let (address, relay) = endless(Message::Keepalive);
+    let mut peer = Peer::connect(address).expect("a handshake");
+    peer.set_answer_wait(Duration::from_millis(300));
+    let start = Instant::now();
+    confirm(&mut peer, &fingerprint(b"abc")).expect("the file is there");
+    assert!((300..5_000).contains(&start.elapsed().as_millis()), "{:?}", start.elapsed());
     drop(peer);
     relay.join().expect("the relay");
 }

@@ -1,7 +1,10 @@
 //! The peer against a relay of the tests' own, its progress line and its files.
 
+mod address;
 mod connection;
+mod digest;
 mod part_file;
+mod patience;
 mod progress;
 mod support;
 mod transfer;

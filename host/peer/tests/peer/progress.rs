@@ -2,7 +2,7 @@
 
 use std::time::Duration;
 
-use peer::{text, Meter};
+use peer::{text, Meter, Progress};
 
 #[test]
 fn bytes_percent_rate_and_time_left() {
@@ -24,11 +24,15 @@ fn the_edges() {
 }
 
 /// What a meter shows of these moments (milliseconds, bytes of 1,000,000) and the end.
-fn shown(terminal: bool, moments: &[(u64, u64)], end: u64) -> String {
+fn shown(columns: fn() -> Option<usize>, moments: &[(u64, u64)], end: u64) -> String {
+    shown_of(columns, moments.iter().map(|&(moment, done)| (moment, Progress::Moved { done, total: 1_000_000 })), end)
+}
+
+fn shown_of(columns: fn() -> Option<usize>, moments: impl Iterator<Item = (u64, Progress)>, end: u64) -> String {
     let mut shown = Vec::new();
-    let mut meter = Meter::new(&mut shown, terminal);
-    for &(moment, done) in moments {
-        meter.update_at(Duration::from_millis(moment), done, 1_000_000);
+    let mut meter = Meter::new(&mut shown, columns);
+    for (moment, progress) in moments {
+        meter.update_at(Duration::from_millis(moment), progress);
     }
     meter.end_at(Duration::from_millis(end));
     meter.end_at(Duration::from_millis(end));
@@ -36,12 +40,25 @@ fn shown(terminal: bool, moments: &[(u64, u64)], end: u64) -> String {
     String::from_utf8(shown).expect("a text")
 }
 
+const NO_TERMINAL: fn() -> Option<usize> = || None;
+const WIDE: fn() -> Option<usize> = || Some(70);
+const NARROW: fn() -> Option<usize> = || Some(20);
+
 #[test]
 fn a_terminal_line_is_redrawn_in_place_a_few_times_per_second() {
     let first = "100,000 of 1,000,000 bytes, 10 %, 200.0 kB/s, 0:05 left";
     let last = "1,000,000 of 1,000,000 bytes, 100 %, 1.0 MB/s";
-    let expected = format!("\r{first}\r{last:width$}\n", width = first.len());
-    assert_eq!(shown(true, &[(0, 0), (500, 100_000), (600, 200_000), (700, 1_000_000)], 1_000), expected);
+    let moments = [(0, 0), (500, 100_000), (600, 200_000), (700, 1_000_000)];
+    assert_eq!(shown(WIDE, &moments, 1_000), format!("\r{first:69}\r{last:69}\n"));
+}
+
+#[test]
+fn a_terminal_line_is_never_wider_than_the_terminal() {
+    let moments = [(500, 100_000), (1_000, 200_000)];
+    assert_eq!(shown(NARROW, &moments, 1_000), "\r100,000 of 1,000,00\r200,000 of 1,000,00\r200,000 of 1,000,00\n");
+    assert_eq!(shown(|| Some(1), &[(500, 1)], 500), "\r\r\n");
+    let stalled = [(500, Progress::Stalled(Duration::from_secs(60)))];
+    assert_eq!(shown_of(NARROW, stalled.into_iter(), 1_000), "\rnothing has moved f\n");
 }
 
 #[test]
@@ -50,17 +67,27 @@ fn elsewhere_a_line_comes_every_few_seconds_and_at_the_end() {
     let expected = "50,000 of 1,000,000 bytes, 5 %, 10.0 kB/s, 1:35 left\n\
                     100,000 of 1,000,000 bytes, 10 %, 10.0 kB/s, 1:30 left\n\
                     100,000 of 1,000,000 bytes, 10 %, 10.0 kB/s, 1:30 left\n";
-    assert_eq!(shown(false, &moments, 10_000), expected);
+    assert_eq!(shown(NO_TERMINAL, &moments, 10_000), expected);
+}
+
+#[test]
+fn a_stall_is_shown_at_once() {
+    let stalled = Progress::Stalled(Duration::from_millis(60_900));
+    let moments = [(0, stalled), (1, Progress::Moved { done: 500, total: 1_000 }), (2, stalled)];
+    let expected = "nothing has moved for 60 s\n\
+                    nothing has moved for 60 s; 500 of 1,000 bytes, 50 %\n\
+                    500 of 1,000 bytes, 50 %, 500 B/s, 0:01 left\n";
+    assert_eq!(shown_of(NO_TERMINAL, moments.into_iter(), 1_000), expected);
 }
 
 #[test]
 fn the_rate_is_that_of_the_last_seconds() {
     let burst_then_slow = [(1_000, 500_000), (5_000, 504_000), (10_000, 509_000)];
     let last = "509,000 of 1,000,000 bytes, 50 %, 1.0 kB/s, 8:11 left\n";
-    assert!(shown(false, &burst_then_slow, 10_000).contains(last));
+    assert!(shown(NO_TERMINAL, &burst_then_slow, 10_000).contains(last));
 }
 
 #[test]
 fn nothing_is_shown_of_a_transfer_that_never_began() {
-    assert_eq!(shown(true, &[], 1_000), "");
+    assert_eq!(shown(WIDE, &[], 1_000), "");
 }

@@ -1,11 +1,13 @@
 //! A relay for the tests: a thread that speaks frames, by a script or as a small forwarding loop.
 
-use std::io::{Read, Write};
+use std::io::{self, Read, Write};
 use std::net::{Shutdown, SocketAddr, TcpListener, TcpStream};
+use std::sync::mpsc::{self, Receiver};
 use std::thread::{self, JoinHandle};
 use std::time::Duration;
 
 use codec::{Message, Session};
+use peer::{receive_file, send_file, Error, Fingerprint, Peer, MESSAGE_SIZE};
 
 /// No read or write of a test waits longer.
 const LIMIT: Duration = Duration::from_secs(10);
@@ -31,14 +33,19 @@ impl Connection {
         Self { stream, reader: frames::Reader::default() }
     }
 
+    /// A peer may be gone already, which its own outcome shows.
     pub fn send(&mut self, message: Message) {
+        self.try_send(message);
+    }
+
+    /// Whether the peer is still there.
+    pub fn try_send(&mut self, message: Message) -> bool {
         let mut frame = Vec::new();
         frames::append(&codec::encode(&message).expect("a message"), &mut frame).expect("a frame");
-        self.send_raw(&frame);
+        self.stream.write_all(&frame).is_ok()
     }
 
     pub fn send_raw(&mut self, bytes: &[u8]) {
-        // A peer may be gone already, which its own outcome shows.
         let _ = self.stream.write_all(bytes);
     }
 
@@ -71,6 +78,11 @@ impl Connection {
     pub fn grant_session(&mut self) {
         self.expect(Message::EstablishRequest { id: ID });
         self.send(Message::Established { id: ID, session: SESSION });
+    }
+
+    /// Waits until something has come, and leaves it unread.
+    pub fn await_bytes(&mut self) {
+        assert_eq!(self.stream.peek(&mut [0]).expect("bytes"), 1);
     }
 
     /// Reads whatever comes to the end of the stream.
@@ -133,9 +145,104 @@ fn listen() -> (TcpListener, SocketAddr) {
     (listener, address)
 }
 
+/// A peer that has leased the id.
+pub fn holder(address: SocketAddr) -> Peer {
+    let mut peer = Peer::connect(address).expect("a handshake");
+    assert_eq!(peer.lease().expect("a lease"), ID);
+    peer
+}
+
+/// What receiving gives if this comes in the session, and what was written.
+pub fn receive_at(script: impl FnOnce(&mut Connection) + Send + 'static) -> (Result<u64, Error>, Vec<u8>) {
+    let (address, relay) = scripted(|mut connection| {
+        connection.shake_hands();
+        connection.grant_lease(LATER);
+        connection.send(Message::EstablishNotification { session: SESSION });
+        script(&mut connection);
+    });
+    let (mut peer, mut written) = (holder(address), Vec::new());
+    let outcome = receive_file(&mut peer, &mut written, |_| ());
+    // The connection's end after an error mustn't depend on the peer's drop.
+    relay.join().expect("the relay");
+    (outcome, written)
+}
+
+pub fn announce(connection: &mut Connection, length: u64) {
+    connection.send(Message::DataReceive { data: &length.to_be_bytes() });
+}
+
+/// The length, the file and the digest, as a sender does.
+pub fn send_whole(connection: &mut Connection, file: &[u8]) {
+    announce(connection, file.len() as u64);
+    connection.send(Message::DataReceive { data: file });
+    connection.send(Message::DataReceive { data: &fingerprint(file).digest });
+}
+
+/// What sending gives if this happens in the session.
+pub fn send_at(
+    reader: impl Read + Send,
+    length: u64,
+    script: impl FnOnce(&mut Connection) + Send + 'static,
+) -> Result<(), Error> {
+    let (address, relay) = scripted(|mut connection| {
+        connection.shake_hands();
+        connection.grant_session();
+        script(&mut connection);
+    });
+    let mut peer = Peer::connect(address).expect("a handshake");
+    let outcome = send_file(&mut peer, ID, reader, length, |_| ());
+    relay.join().expect("the relay");
+    outcome
+}
+
+/// The length, the file in one message and the digest.
+#[track_caller]
+pub fn expect_whole(connection: &mut Connection, file: &[u8]) {
+    connection.expect(Message::DataSend { data: &(file.len() as u64).to_be_bytes() });
+    connection.expect(Message::DataSend { data: file });
+    connection.expect(Message::DataSend { data: &fingerprint(file).digest });
+}
+
+/// Counts what the sender has sent, but reads nothing, until the sender is stuck in a write.
+pub fn fill(connection: &mut Connection, reads: &Receiver<usize>) {
+    let (mut read, mut counted) = (0, 0);
+    while let Ok(count) = reads.recv_timeout(Duration::from_secs(1)) {
+        read += count;
+        // All that was read has been sent, but for a message or two.
+        let sent = read.saturating_sub(3 * MESSAGE_SIZE);
+        if sent > counted {
+            counted = sent;
+            connection.send(Message::DataReceive { data: &(sent as u64).to_be_bytes() });
+        }
+    }
+}
+
+/// Notes how much is read, which a write that waits holds up.
+pub struct Noting<R> {
+    pub reader: R,
+    pub to_relay: mpsc::Sender<usize>,
+}
+
+impl<R: Read> Read for Noting<R> {
+    fn read(&mut self, to: &mut [u8]) -> io::Result<usize> {
+        let count = self.reader.read(to)?;
+        let _ = self.to_relay.send(count);
+        Ok(count)
+    }
+}
+
+pub fn fingerprint(file: &[u8]) -> Fingerprint {
+    Fingerprint::read(file).expect("bytes")
+}
+
+/// What a receiver confirms a file by.
+pub fn confirmation(file: &[u8]) -> Vec<u8> {
+    [&(file.len() as u64).to_be_bytes()[..], &fingerprint(file).digest].concat()
+}
+
 /// Fails unless all of these words are in the error's text.
 #[track_caller]
-pub fn assert_words(error: peer::Error, words: &[&str]) {
+pub fn assert_words(error: Error, words: &[&str]) {
     let text = error.to_string();
     for word in words {
         assert!(text.contains(word), "'{word}' isn't in '{text}'");

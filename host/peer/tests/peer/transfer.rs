@@ -1,28 +1,23 @@
 //! Files through a relay: whole ones, and sides that vanish or break the format.
 
-use std::io::{self, Read, Write};
-use std::net::SocketAddr;
+use std::io::{self, Write};
 use std::sync::atomic::{AtomicBool, Ordering};
-use std::sync::mpsc::{self, Receiver, RecvTimeoutError};
+use std::sync::mpsc::{self, RecvTimeoutError};
 use std::sync::Arc;
 use std::thread;
 use std::time::Duration;
 
 use codec::{Message, DATA_LIMIT};
-use peer::{receive_file, send_contents, send_file, Error, Peer, MESSAGE_SIZE};
+use peer::{receive_file, send_contents, send_file, Patience, Peer, Progress, MESSAGE_SIZE};
 
-use crate::support::{assert_words, forwarding, scripted, Connection, ID, LATER, SESSION};
+use crate::support::{
+    announce, assert_words, confirmation, expect_whole, fill, fingerprint, forwarding, holder, receive_at, scripted,
+    send_at, send_whole, Noting, ID, LATER, SESSION,
+};
 
 /// Bytes that don't repeat soon.
 fn contents(length: usize) -> Vec<u8> {
     (0..length as u32).map(|at| (at.wrapping_mul(2_654_435_761) >> 24) as u8).collect()
-}
-
-/// A peer that has leased the id.
-fn holder(address: SocketAddr) -> Peer {
-    let mut peer = Peer::connect(address).expect("a handshake");
-    assert_eq!(peer.lease().expect("a lease"), ID);
-    peer
 }
 
 /// Sends a file of this length to a second peer in messages of this size.
@@ -33,23 +28,25 @@ fn check_transfer(length: usize, message_size: usize) {
     let mut receiver = holder(address);
     let receiving = thread::spawn(move || {
         let (mut received, mut told) = (Vec::new(), Vec::new());
-        let count = receive_file(&mut receiver, &mut received, |done, total| told.push((done, total)));
+        let count = receive_file(&mut receiver, &mut received, |progress| told.push(progress));
         (count.expect("a file"), received, told)
     });
     let mut sender = Peer::connect(address).expect("a handshake");
     sender.establish(ID).expect("a session");
     let mut arrived = Vec::new();
-    let progress = |done, total| arrived.push((done, total));
-    send_contents(&mut sender, file.as_slice(), length as u64, message_size, progress).expect("sent");
+    let progress = |progress| arrived.push(progress);
+    send_contents(&mut sender, file.as_slice(), length as u64, message_size, Patience::default(), progress)
+        .expect("sent");
     sender.finish().expect("the end");
     let (count, received, told) = receiving.join().expect("the receiver");
     assert!(received == file, "the file has changed");
     assert_eq!(count, length as u64);
-    assert_eq!((arrived.first(), arrived.last()), (Some(&(0, count)), Some(&(count, count))));
+    let [none, all] = [0, count].map(|done| Progress::Moved { done, total: count });
+    assert_eq!((arrived.first(), arrived.last()), (Some(&none), Some(&all)));
     assert!(arrived.iter().skip(1).all(|counted| told.contains(counted)), "counted before it came");
-    assert_eq!((told.first(), told.last()), (Some(&(0, count)), Some(&(count, count))));
+    assert_eq!((told.first(), told.last()), (Some(&none), Some(&all)));
     let kinds = relay.join().expect("the relay");
-    let data_messages = 1 + length.div_ceil(message_size);
+    let data_messages = 2 + length.div_ceil(message_size);
     assert_eq!(kinds, [vec![11; data_messages], vec![9]].concat());
 }
 
@@ -66,23 +63,7 @@ fn an_empty_file() {
     check_transfer(0, MESSAGE_SIZE);
 }
 
-/// What receiving gives if this comes in the session, and what was written.
-fn receive_at(script: impl FnOnce(&mut Connection) + Send + 'static) -> (Result<u64, Error>, Vec<u8>) {
-    let (address, relay) = scripted(|mut connection| {
-        connection.shake_hands();
-        connection.grant_lease(LATER);
-        connection.send(Message::EstablishNotification { session: SESSION });
-        script(&mut connection);
-    });
-    let mut written = Vec::new();
-    let outcome = receive_file(&mut holder(address), &mut written, |_, _| ());
-    relay.join().expect("the relay");
-    (outcome, written)
-}
-
-fn announce(connection: &mut Connection, length: u64) {
-    connection.send(Message::DataReceive { data: &length.to_be_bytes() });
-}
+const STOPPED: &str = "the relay stopped or closed the connection";
 
 #[test]
 fn the_sender_vanishes() {
@@ -96,8 +77,25 @@ fn the_sender_vanishes() {
     assert_eq!(written.len(), 1_234);
     let (outcome, _) = receive_at(|connection| connection.send(Message::SessionEndNotification));
     assert_words(outcome.expect_err("no file"), &["ended the session or vanished", "no byte had come"]);
+}
+
+#[test]
+fn the_relay_stops_while_a_file_is_received() {
     let (outcome, _) = receive_at(|connection| announce(connection, 1));
-    assert_words(outcome.expect_err("no file"), &["the relay closed the connection", "0 of 1 bytes"]);
+    assert_words(outcome.expect_err("no file"), &[STOPPED, "0 of 1 bytes"]);
+    // Within a frame.
+    let (outcome, _) = receive_at(|connection| {
+        announce(connection, 1);
+        connection.send_raw(&[0, 9, 1]);
+    });
+    assert_words(outcome.expect_err("no file"), &[STOPPED, "0 of 1 bytes"]);
+    // With a count that it hasn't read, by which the connection is reset.
+    let (outcome, _) = receive_at(|connection| {
+        announce(connection, 50_000);
+        connection.send(Message::DataReceive { data: &[1; 40_000] });
+        connection.await_bytes();
+    });
+    assert_words(outcome.expect_err("no file"), &[STOPPED, "40,000 of 50,000 bytes"]);
 }
 
 #[test]
@@ -110,9 +108,8 @@ fn more_than_announced() {
     assert_words(outcome.expect_err("no file"), &["more bytes than it had announced", "0 of 3 bytes"]);
     assert_eq!(written, b"");
     let (outcome, _) = receive_at(|connection| {
-        announce(connection, 3);
-        connection.send(Message::DataReceive { data: b"one" });
-        connection.expect(Message::DataSend { data: &[0, 0, 0, 0, 0, 0, 0, 3] });
+        send_whole(connection, b"one");
+        connection.expect(Message::DataSend { data: &confirmation(b"one") });
         connection.send(Message::DataReceive { data: b"more" });
     });
     assert_words(outcome.expect_err("too much"), &["more bytes than it had announced"]);
@@ -137,9 +134,8 @@ fn malformed_bytes_in_a_session() {
 #[test]
 fn after_the_answer_the_relay_may_close() {
     let (outcome, written) = receive_at(|connection| {
-        announce(connection, 3);
-        connection.send(Message::DataReceive { data: b"one" });
-        connection.expect(Message::DataSend { data: &[0, 0, 0, 0, 0, 0, 0, 3] });
+        send_whole(connection, b"one");
+        connection.expect(Message::DataSend { data: &confirmation(b"one") });
     });
     assert_eq!((outcome.expect("a file"), written.as_slice()), (3, &b"one"[..]));
 }
@@ -171,10 +167,11 @@ fn the_whole_length_is_told_when_the_file_is_safe() {
         connection.send(Message::DataReceive { data: &[1; 35_000] });
         connection.expect(Message::DataSend { data: &35_000_u64.to_be_bytes() });
         connection.send(Message::DataReceive { data: &[1; 5_000] });
-        connection.expect(Message::DataSend { data: &40_000_u64.to_be_bytes() });
+        connection.send(Message::DataReceive { data: &fingerprint(&[1; 40_000]).digest });
+        connection.expect(Message::DataSend { data: &confirmation(&[1; 40_000]) });
         assert!(seen.load(Ordering::SeqCst), "told before it was safe");
     });
-    receive_file(&mut holder(address), Slow(safe), |_, _| ()).expect("a file");
+    receive_file(&mut holder(address), Slow(safe), |_| ()).expect("a file");
     relay.join().expect("the relay");
 }
 
@@ -196,29 +193,15 @@ fn a_file_that_cannot_be_written_ends_both_sides() {
     let (address, relay) = forwarding();
     let mut receiver = holder(address);
     // The peer outlives its error: the connection's end mustn't depend on its drop.
-    let receiving = thread::spawn(move || (receive_file(&mut receiver, Full, |_, _| ()), receiver));
+    let receiving = thread::spawn(move || (receive_file(&mut receiver, Full, |_| ()), receiver));
     let mut sender = Peer::connect(address).expect("a handshake");
     let file = contents(100);
-    let error = send_file(&mut sender, ID, file.as_slice(), 100, |_, _| ()).expect_err("not sent");
+    let error = send_file(&mut sender, ID, file.as_slice(), 100, |_| ()).expect_err("not sent");
     assert_words(error, &["ended the session or vanished", "0 of 100 bytes had arrived"]);
     let (received, _receiver) = receiving.join().expect("the receiver");
     assert_words(received.expect_err("no file"), &["can't be written", "0 of 100 bytes"]);
     drop(sender);
     relay.join().expect("the relay");
-}
-
-/// What sending gives if this happens in the session.
-fn send_at(reader: impl Read, length: u64, script: impl FnOnce(&mut Connection) + Send + 'static) -> Result<(), Error> {
-    let (address, relay) = scripted(|mut connection| {
-        connection.shake_hands();
-        connection.grant_session();
-        script(&mut connection);
-    });
-    let mut peer = Peer::connect(address).expect("a handshake");
-    let outcome = send_file(&mut peer, ID, reader, length, |_, _| ());
-    drop(peer);
-    relay.join().expect("the relay");
-    outcome
 }
 
 #[test]
@@ -234,38 +217,10 @@ fn the_receiver_vanishes_while_a_write_waits() {
     });
     let mut peer = Peer::connect(address).expect("a handshake");
     let endless = Noting { reader: io::repeat(1), to_relay };
-    let error = send_file(&mut peer, ID, endless, 1 << 40, |_, _| ()).expect_err("not sent");
+    let error = send_file(&mut peer, ID, endless, 1 << 40, |_| ()).expect_err("not sent");
     drop(failed);
     assert_words(error, &["ended the session or vanished", "of 1,099,511,627,776 bytes"]);
     relay.join().expect("the relay");
-}
-
-/// Counts what the sender has sent, but reads nothing, until the sender is stuck in a write.
-fn fill(connection: &mut Connection, reads: &Receiver<usize>) {
-    let (mut read, mut counted) = (0, 0);
-    while let Ok(count) = reads.recv_timeout(Duration::from_secs(1)) {
-        read += count;
-        // All that was read has been sent, but for a message or two.
-        let sent = read.saturating_sub(3 * MESSAGE_SIZE);
-        if sent > counted {
-            counted = sent;
-            connection.send(Message::DataReceive { data: &(sent as u64).to_be_bytes() });
-        }
-    }
-}
-
-/// Notes how much is read, which a write that waits holds up.
-struct Noting<R> {
-    reader: R,
-    to_relay: mpsc::Sender<usize>,
-}
-
-impl<R: Read> Read for Noting<R> {
-    fn read(&mut self, to: &mut [u8]) -> io::Result<usize> {
-        let count = self.reader.read(to)?;
-        let _ = self.to_relay.send(count);
-        Ok(count)
-    }
 }
 
 #[test]
@@ -284,12 +239,12 @@ fn the_sender_is_never_far_ahead_of_the_receiver() {
 }
 
 #[test]
-fn the_relay_closes_while_a_file_is_sent() {
-    let error = send_at(&b"abc"[..], 3, |connection| {
-        connection.expect(Message::DataSend { data: &[0, 0, 0, 0, 0, 0, 0, 3] });
-        connection.expect(Message::DataSend { data: b"abc" });
-    });
-    assert_words(error.expect_err("not sent"), &["the relay closed the connection", "0 of 3 bytes had arrived"]);
+fn the_relay_stops_while_a_file_is_sent() {
+    let error = send_at(&b"abc"[..], 3, |connection| expect_whole(connection, b"abc"));
+    assert_words(error.expect_err("not sent"), &[STOPPED, "0 of 3 bytes had arrived"]);
+    // With bytes that it hasn't read, by which the connection is reset.
+    let error = send_at(io::repeat(1), 1 << 40, |connection| connection.await_bytes());
+    assert_words(error.expect_err("not sent"), &[STOPPED, "0 of 1,099,511,627,776 bytes had arrived"]);
 }
 
 #[test]
@@ -299,8 +254,7 @@ fn a_wrong_count() {
         [vec![b"yes".to_vec()], vec![vec![]], vec![count(4)], vec![count(2), count(2)], vec![count(2), count(1)]];
     for answers in wrong {
         let error = send_at(&b"abc"[..], 3, move |connection| {
-            connection.expect(Message::DataSend { data: &[0, 0, 0, 0, 0, 0, 0, 3] });
-            connection.expect(Message::DataSend { data: b"abc" });
+            expect_whole(connection, b"abc");
             answers.iter().for_each(|data| connection.send(Message::DataReceive { data }));
             connection.drain();
         });
@@ -311,11 +265,10 @@ fn a_wrong_count() {
 #[test]
 fn a_keepalive_is_answered_while_a_file_is_sent() {
     let outcome = send_at(&b"abc"[..], 3, |connection| {
-        connection.expect(Message::DataSend { data: &[0, 0, 0, 0, 0, 0, 0, 3] });
-        connection.expect(Message::DataSend { data: b"abc" });
+        expect_whole(connection, b"abc");
         connection.send(Message::Keepalive);
         connection.expect(Message::Keepalive);
-        connection.send(Message::DataReceive { data: &[0, 0, 0, 0, 0, 0, 0, 3] });
+        connection.send(Message::DataReceive { data: &confirmation(b"abc") });
         connection.expect(Message::SessionEnd);
     });
     outcome.expect("sent");

@@ -3,11 +3,10 @@
 use engine::relay::{Answer, NOBODY};
 
 use super::EventLoop;
+use crate::connection::SESSION_END;
 
 /// Type of a request to establish a session.
 const ESTABLISH: u8 = 6;
-/// Type of SessionEnd.
-const SESSION_END: u8 = 9;
 
 impl EventLoop {
     /// What is replied stands in the reply buffer.

@@ -175,7 +175,8 @@ impl EventLoop {
         let is_busy = !self.ready.is_empty() || self.partners.iter().any(|partner| partner.turns.next().is_some());
         match is_busy {
             true => Duration::ZERO,
-            false => self.earliest.saturating_duration_since(Instant::now()),
+            // The poll counts whole milliseconds and leaves out the rest: then it would come back too early, over and over.
+            false => self.earliest.saturating_duration_since(Instant::now()) + Duration::from_micros(999),
         }
     }
 

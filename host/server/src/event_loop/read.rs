@@ -3,11 +3,8 @@
 use mio::event::Event;
 
 use super::EventLoop;
-use crate::connection::{End, Phase};
+use crate::connection::{Connection, End, Phase};
 use crate::input::Found;
-
-/// Type of SessionEnd, the one message that costs nothing: it is offered at once, whoever waits.
-const SESSION_END: u8 = 9;
 
 impl EventLoop {
     pub(super) fn note_connection(&mut self, number: usize, event: &Event) {
@@ -56,7 +53,7 @@ impl EventLoop {
 
     /// Goes on with a connection: a whole message waits for its turn, the rest of a frame is read.
     pub(super) fn go_on(&mut self, number: usize) {
-        while self.has_session_end(number) {
+        while self.connections[number].as_ref().is_some_and(Connection::has_session_end) {
             self.offer(number);
         }
         let Some(connection) = &mut self.connections[number] else { return };
@@ -75,12 +72,6 @@ impl EventLoop {
             None if connection.input.is_empty() => self.end(number, End::Left),
             None => self.end(number, End::Unreadable(frames::Error::Cut)),
         }
-    }
-
-    fn has_session_end(&self, number: usize) -> bool {
-        let Some(connection) = &self.connections[number] else { return false };
-        let first = connection.input.message().and_then(|message| message.first());
-        first == Some(&SESSION_END) && connection.is_taken_from()
     }
 
     /// There is no whole message: it has nothing to offer until more has come.

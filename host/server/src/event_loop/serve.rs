@@ -7,7 +7,6 @@ use engine::relay::{Answer, BUFFER, RANDOM};
 use super::EventLoop;
 use crate::connection::{End, Hold, Phase};
 use crate::refusal::{Consequence, Refusal};
-use crate::CONNECTIONS_EACH;
 
 /// What the partners' messages may cost together in a turn: so many that a turn's own cost hardly counts, and so few that
 /// a neighbour's message doesn't wait long for the next.
@@ -44,33 +43,51 @@ impl EventLoop {
         let mut spent = 0;
         while spent < share {
             let Some(number) = self.partners[partner].turns.next() else { return };
-            spent += self.serve_connection(number);
+            spent += self.serve_connection(number, share - spent);
         }
     }
 
-    /// Offers what a connection has next, if it can afford it by now. Gives what that cost.
-    fn serve_connection(&mut self, number: usize) -> usize {
-        let turns = &mut self.partners[number / CONNECTIONS_EACH].turns;
-        let Some(connection) = &self.connections[number] else {
-            turns.leave(number);
-            return 0;
-        };
-        let is_opening = connection.phase == Phase::Opening;
-        let cost = FIXED_COST + connection.input.message().map_or(0, <[u8]>::len);
-        if !turns.affords(cost) {
-            return 0;
+    /// Offers what the connection has whose turn it is, as far as it can afford it. Gives what that cost.
+    fn serve_connection(&mut self, number: usize, share: usize) -> usize {
+        let credit = self.partner_of(number).turns.credit(number);
+        let mut spent = 0;
+        while spent < share {
+            let cost = FIXED_COST + self.next_length(number);
+            if spent + cost > credit {
+                self.partner_of(number).turns.pass_on(number);
+                break;
+            }
+            self.offer_next(number);
+            if self.partner_of(number).turns.waiting {
+                break;
+            }
+            spent += cost;
+            if !self.has_more(number) {
+                self.go_on(number);
+                break;
+            }
         }
-        if is_opening {
-            self.open(number);
-        } else {
-            self.offer(number);
+        self.partner_of(number).turns.spend(number, spent);
+        spent
+    }
+
+    /// The length of what a connection offers next: an open has none.
+    fn next_length(&self, number: usize) -> usize {
+        let message = self.connections[number].as_ref().and_then(|connection| connection.input.message());
+        message.map_or(0, <[u8]>::len)
+    }
+
+    /// Whether the next message of a connection can be offered in the same turn.
+    fn has_more(&self, number: usize) -> bool {
+        let Some(connection) = &self.connections[number] else { return false };
+        connection.is_taken_from() && connection.input.message().is_some() && !connection.has_session_end()
+    }
+
+    fn offer_next(&mut self, number: usize) {
+        match &self.connections[number] {
+            Some(connection) if connection.phase == Phase::Opening => self.open(number),
+            _ => self.offer(number),
         }
-        let turns = &mut self.partners[number / CONNECTIONS_EACH].turns;
-        if !turns.waiting {
-            turns.spend(number, cost);
-            self.go_on(number);
-        }
-        cost
     }
 
     fn open(&mut self, number: usize) {
