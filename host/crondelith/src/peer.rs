@@ -31,11 +31,11 @@ const DETAILS: &str = "\
 With a port in '--relay', '--port' and '--partner' may not be given.
 
 The receiver writes to a file beside FILE, of the same name with some letters and '.part' after it.
-Once that is complete and has the sender's digest it gets its name; otherwise it is removed. While it
-waits it extends its lease; if the relay doesn't extend it, it leases another id and prints that one
-too. The sender is done when the receiver has confirmed the file, with its digest. A relay hands on
-65,536 bytes a second for a partner whose allowance is used up. A transfer in which nothing moves for
-60 seconds says so.
+Once that is complete and has the sender's digest it gets its name; otherwise it is removed. While
+the receiver waits it extends its lease; if the relay doesn't extend it, it leases another id and
+prints that one too. The sender is done when the receiver has confirmed the file, with its digest.
+A relay hands on 65,536 bytes a second for a partner whose allowance is used up. A transfer in which
+nothing moves for 60 seconds says so.
 
 The exit status is 0 if the whole file has come, 1 if not, also when interrupted before (Ctrl-C),
 and 2 if the arguments are wrong or FILE is in the way.";

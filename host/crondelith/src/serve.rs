@@ -27,16 +27,28 @@ that refills by 65,536 each second; a message costs 32 and its length. The proto
 for a refusal, so this is what follows from one:
 
   allowance used up (9)      the message waits for the refill, and nothing more is read from its
-                             connection meanwhile
-  no session (8)             the message is dropped
+                             connection meanwhile; a partner's connections share a refill by bytes
+  no session (8)             the message is dropped, and the next one is taken after a pause of a
+                             millisecond for each KiB of it
   malformed (6), or not
   permitted then (7)         the connection is closed
-  a ninth connection         is closed at once
+  a ninth connection         waits a tenth of a second for a number, and is closed
 
-Each has a log line on stderr; repeated lines are summed up every 5 seconds. At most some 256 KiB
-wait for a connection that reads slowly: beyond that its senders wait too. One that reads next to
-nothing for 30 seconds is closed.
+Each has a log line on stderr, with the time and the peer's address; from the eleventh line of a
+kind and connection on they are summed up, every 5 seconds. At most some 128 KiB wait for a
+connection that reads slowly: beyond that its senders wait too. A connection is closed that takes
+less than 16 KiB of what waits for it in 30 seconds, doesn't answer the relay's version in 10, or
+leaves a frame unfinished for 30; one whose peer has vanished, after about a minute.
 
+With '--state' the three tables are in FILE: they are loaded at the start, saved twice a second when
+they have changed, and at the end. Leases and allowances go on; connections are gone. What a killed
+relay did in its last second is lost. Only one relay can use a file; beside it stand FILE.lock and,
+for moments, FILE.new. A file of another size is an error and is left as it is.
+
+The relay's clock is the machine's at the start (or the state's, if that is later) and goes on by
+itself; that the machine's time was set meanwhile is a line in the log.
+
+At the end, what waits for allowance is lost; what was accepted has 2 seconds to be written.
 SIGINT (Ctrl-C), SIGTERM and SIGHUP end the relay in order; a second Ctrl-C or SIGTERM ends it at
 once. Under nohup, SIGHUP is ignored.
 
