@@ -1,6 +1,7 @@
 //! The program as its users see it: what it prints, its exit statuses, a file through a relay, the signals.
 
 mod arguments;
+mod bad_days;
 mod demo;
 mod outputs;
 mod serve;

@@ -70,6 +70,10 @@ impl Running {
         self.shell(&format!("kill -{name}"));
     }
 
+    pub fn id(&self) -> u32 {
+        self.child.id()
+    }
+
     /// From now on it gets no further file descriptor.
     pub fn allow_no_descriptor(&self) {
         self.shell("prlimit --nofile=0 --pid");

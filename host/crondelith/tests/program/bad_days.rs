@@ -1,0 +1,144 @@
+//! A relay that is killed, ends during a transfer, has too few file descriptors or meets a flood, and two receivers of one
+//! name.
+
+use std::fs;
+use std::io::{Read, Write};
+use std::net::TcpStream;
+use std::process::{Command, Stdio};
+use std::thread;
+use std::time::{Duration, Instant};
+
+use crate::support::{files, folder, text, write_file, Relay, Running, PROGRAM};
+
+#[test]
+fn a_killed_relay_loses_at_most_its_last_second() {
+    let folder = folder("killed");
+    let state = folder.join("state");
+    let options = ["--state", text(&state)];
+    let relay = Relay::start(&options);
+    let (receiver, id) = relay.receiver(&folder.join("copy"), &[]);
+    thread::sleep(Duration::from_secs(1));
+    relay.program.signal("KILL");
+    assert_eq!(relay.program.end().status, None);
+    assert_eq!(receiver.end().status, Some(1));
+    for wait in [0, 7, 31, 150, 490, 510] {
+        // Killed at any moment, it leaves whole tables.
+        let relay = Relay::start(&options);
+        let (_receiver, _) = relay.receiver(&folder.join("other"), &["--force"]);
+        thread::sleep(Duration::from_millis(wait));
+        relay.program.signal("KILL");
+        relay.program.end();
+    }
+    let relay = Relay::start(&options);
+    let sender = Running::start(&mut relay.peer(&["send", &id, "/etc/passwd"])).end();
+    assert!(sender.last_line().contains("offline"), "the lease runs on: {}", sender.stderr);
+}
+
+#[test]
+fn both_sides_of_a_transfer_say_that_the_relay_stopped() {
+    let relay = Relay::start(&[]);
+    let folder = folder("relay_stops");
+    let original = folder.join("original");
+    // More than the allowance lets through in the time.
+    write_file(&original, 2_000_000);
+    let (receiver, id) = relay.receiver(&folder.join("copy"), &[]);
+    let mut sender = Running::start(&mut relay.peer(&["send", &id, text(&original)]));
+    sender.await_line("the session is established").expect("a session");
+    thread::sleep(Duration::from_millis(300));
+    relay.program.signal("TERM");
+    assert_eq!(relay.program.end().status, Some(0));
+    for side in [sender, receiver] {
+        let ended = side.end();
+        assert_eq!(ended.status, Some(1));
+        assert!(ended.last_line().contains("the relay stopped"), "{}", ended.stderr);
+    }
+    assert_eq!(files(&folder), 1, "no part is left");
+}
+
+/// What a relay says that has so many descriptors, by the shell's limit of this kind; None if it runs.
+fn said_with_descriptors(limit: &str) -> Option<String> {
+    let command = format!("ulimit {limit}; exec '{PROGRAM}' serve --port 21700");
+    let mut shell = Command::new("sh");
+    shell.args(["-c", &command]).stdin(Stdio::null()).stdout(Stdio::null()).stderr(Stdio::piped());
+    let mut relay = Running::start(&mut shell);
+    if relay.await_line("the relay runs").is_some() {
+        relay.signal("TERM");
+        assert_eq!(relay.end().status, Some(0));
+        return None;
+    }
+    let mut again = Running::start(&mut shell);
+    let lines = again.await_line("file descriptors").unwrap_or_default();
+    assert_eq!(again.end().status, Some(1));
+    Some(lines)
+}
+
+#[test]
+fn too_few_file_descriptors_are_found_at_the_start() {
+    assert_eq!(said_with_descriptors("-S -n 40"), None, "it raises the limit itself");
+    let said = said_with_descriptors("-n 40").expect("it can't run");
+    assert!(said.contains("the relay needs 168 file descriptors, and the limit is 40 (ulimit -n)"), "{said}");
+}
+
+/// Seconds of CPU that a process has taken.
+fn cpu_seconds(process: u32) -> f64 {
+    let stat = fs::read_to_string(format!("/proc/{process}/stat")).expect("a process");
+    let fields: Vec<_> = stat.rsplit(')').next().expect("fields").split_whitespace().collect();
+    // Of user and system, in hundredths; they are the 14th and 15th, and the first two are cut off.
+    fields[11..13].iter().map(|field| field.parse::<f64>().expect("a number")).sum::<f64>() / 100.0
+}
+
+/// A connection with its version answered that sends the frame over and over until the time.
+fn flood(port: u16, frame: &[u8], end: Instant) -> TcpStream {
+    let mut stream = TcpStream::connect(("127.0.0.1", port)).expect("the relay listens");
+    stream.read_exact(&mut [0; 16]).expect("the version");
+    stream.write_all(&[0, 3, 1, 1, 1]).expect("an answer");
+    stream.set_write_timeout(Some(Duration::from_millis(50))).expect("a timeout");
+    let block = frame.repeat(65_536 / frame.len());
+    while Instant::now() < end {
+        // It is full while the relay pauses.
+        let _ = stream.write(&block);
+    }
+    stream
+}
+
+#[test]
+fn a_flood_of_dropped_messages_leaves_the_relay_idle() {
+    let relay = Relay::start(&[]);
+    let frame = [&[4, 2, 1, 11][..], &[7; 1_024]].concat();
+    let end = Instant::now() + Duration::from_secs(2);
+    let before = cpu_seconds(relay.program.id());
+    let floods: Vec<_> = (0..16)
+        .map(|number| {
+            let (port, frame) = (relay.base_port + number / 8, frame.clone());
+            thread::spawn(move || flood(port, &frame, end))
+        })
+        .collect();
+    let _streams: Vec<_> = floods.into_iter().map(|flood| flood.join().expect("a flood")).collect();
+    let taken = cpu_seconds(relay.program.id()) - before;
+    assert!(taken < 0.6, "{taken} s of CPU in two seconds");
+}
+
+#[test]
+fn two_receivers_of_one_name_keep_one_whole_file() {
+    let relay = Relay::start(&[]);
+    let folder = folder("one_name");
+    let copy = folder.join("copy");
+    let originals = [folder.join("first"), folder.join("second")];
+    let contents = [write_file(&originals[0], 60_000), vec![7; 50_000]];
+    fs::write(&originals[1], &contents[1]).expect("a file");
+    let receivers = [relay.receiver(&copy, &["--force"]), relay.receiver(&copy, &["--force"])];
+    let senders: Vec<_> = originals
+        .iter()
+        .zip(&receivers)
+        .map(|(original, (_, id))| Running::start(&mut relay.peer(&["send", id, text(original)])))
+        .collect();
+    for sender in senders {
+        let ended = sender.end();
+        assert_eq!(ended.status, Some(0), "{}", ended.stderr);
+    }
+    for (receiver, _) in receivers {
+        assert_eq!(receiver.end().status, Some(0));
+    }
+    assert!(contents.contains(&fs::read(&copy).expect("a file")), "neither the one nor the other");
+    assert_eq!(files(&folder), 3, "no part is left");
+}
