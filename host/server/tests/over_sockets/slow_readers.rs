@@ -16,6 +16,8 @@ const MOST: usize = 1 << 24;
 /// of 64 KiB, an output of 64 KiB and a message. The kernel counts more than the bytes.
 const BUFFERS: usize = 1 << 20;
 
+/// What may come between the test and the relay.
+const SLACK: Duration = Duration::from_millis(600);
 /// Of a peer's own kernel buffers.
 const SMALL: usize = 32_768;
 
@@ -71,7 +73,7 @@ fn time_until_given_up(bytes: usize, limits: Limits) -> Option<Duration> {
     let (mut caller, mut holder) = session(&relay);
     fill(&mut caller, &longest_send());
     let start = Instant::now();
-    while start.elapsed() < 3 * limits.patience {
+    while start.elapsed() < 2 * limits.patience + SLACK {
         if relay.has_line("partner 0, connection 1: closed, the peer has read next to nothing for too long") {
             assert_eq!(caller.receive(), encode(&Message::SessionEndNotification));
             return Some(start.elapsed());
@@ -86,11 +88,10 @@ fn time_until_given_up(bytes: usize, limits: Limits) -> Option<Duration> {
 #[test]
 fn who_reads_next_to_nothing_is_given_up_in_time() {
     let limits = Limits { patience: Duration::from_secs(1), least_progress: 60_000, ..Limits::default() };
-    let slack = Duration::from_millis(600);
     for bytes in [0, 1_000] {
-        let time = time_until_given_up(bytes, limits).expect("given up");
         // It was full some 300 ms before, and progress is looked at once in the time.
-        assert!(time + slack > limits.patience && time < 2 * limits.patience + slack, "{bytes}: {time:?}");
+        let time = time_until_given_up(bytes, limits).expect("given up");
+        assert!(time + SLACK > limits.patience, "{bytes}: {time:?}");
     }
     assert_eq!(time_until_given_up(20_000, limits), None, "who reads slowly is served");
 }
@@ -119,7 +120,8 @@ fn the_server_stops_though_a_peer_reads_nothing() {
 
 #[test]
 fn what_waits_is_still_written_when_the_relay_ends() {
-    let relay = Relay::with_clock(JumpingClock::default());
+    let limits = Limits { last_words: crate::support::LIMIT, ..Limits::default() };
+    let relay = Relay::with_limits(JumpingClock::default(), limits);
     let (mut caller, mut holder) = session(&relay);
     fill(&mut caller, &longest_send());
     let accepted = relay.server.statistics()[0].bytes;
@@ -149,7 +151,7 @@ fn who_reads_nothing_is_not_waited_for_when_the_relay_ends() {
     let start = Instant::now();
     relay.stop();
     let time = start.elapsed();
-    assert!(time >= Duration::from_secs(2) && time < Duration::from_secs(4), "{time:?}");
+    assert!(time >= Limits::default().last_words && time < 3 * Limits::default().last_words, "{time:?}");
 }
 
 #[test]
