@@ -108,12 +108,13 @@ pub fn run(arguments: Arguments) -> Outcome {
             json!({ "event": "listening", "partner": partner, "address": address.to_string() }),
         );
     }
-    log.tell("the relay runs; Ctrl-C ends it", json!({ "event": "running" }));
     let stopper = server.stopper();
-    thread::spawn(move || {
+    let watch = move || {
         signals.wait();
         stopper.stop();
-    });
+    };
+    thread::Builder::new().spawn(watch).map_err(|error| Failure::Failed(format!("no thread for signals: {error}")))?;
+    log.tell("the relay runs; Ctrl-C ends it", json!({ "event": "running" }));
     // It also ends if the relay fails.
     server.join().map(drop).map_err(|error| Failure::Failed(error.to_string()))
 }

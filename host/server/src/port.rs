@@ -1,6 +1,6 @@
 //! A partner's port: its listeners, and connections that wait for a number.
 
-use std::collections::VecDeque;
+use std::collections::{BTreeSet, VecDeque};
 use std::io;
 use std::net::{IpAddr, Ipv4Addr, SocketAddr};
 use std::time::{Duration, Instant};
@@ -8,7 +8,7 @@ use std::time::{Duration, Instant};
 use mio::net::{TcpListener, TcpStream};
 use socket2::{Domain, Protocol, SockRef, Socket, TcpKeepalive, Type};
 
-use crate::PARTNERS;
+use crate::{descriptors, CONNECTIONS_EACH, PARTNERS};
 
 /// The kernel's buffers of a connection, each; it takes twice as much. Larger ones would let a peer send in advance what
 /// its partner then pays for long after the peer has gone.
@@ -27,18 +27,31 @@ pub struct Listeners(Vec<Vec<std::net::TcpListener>>);
 
 /// Listens on each of the addresses, for partner p on port `base_port + p`.
 pub fn bind(addresses: &[IpAddr], base_port: u16) -> io::Result<Listeners> {
-    let listener = |partner, address| {
-        let place = SocketAddr::new(address, base_port.saturating_add(partner));
-        listen(place).map_err(|error| io::Error::new(error.kind(), format!("{place} of partner {partner}: {error}")))
-    };
-    let of_partner = |partner| addresses.iter().map(|address| listener(partner, *address)).collect();
-    (0..PARTNERS as u16).map(of_partner).collect::<io::Result<_>>().map(Listeners)
+    // An address may have been given twice.
+    let addresses: BTreeSet<_> = addresses.iter().collect();
+    bind_at(|partner| {
+        let port = base_port.saturating_add(partner as u16);
+        addresses.iter().map(|address| SocketAddr::new(**address, port)).collect()
+    })
 }
 
 /// Listens on this machine's loopback address, on ports that are free.
 pub fn bind_free() -> io::Result<Listeners> {
-    let listener = |_| Ok(vec![listen((Ipv4Addr::LOCALHOST, 0).into())?]);
-    (0..PARTNERS).map(listener).collect::<io::Result<_>>().map(Listeners)
+    bind_at(|_| vec![(Ipv4Addr::LOCALHOST, 0).into()])
+}
+
+/// Listens on each partner's addresses, if there are descriptors for all that will connect.
+fn bind_at(places: impl Fn(usize) -> Vec<SocketAddr>) -> io::Result<Listeners> {
+    let places: Vec<_> = (0..PARTNERS).map(places).collect();
+    descriptors::provide(places.iter().flatten().count() + PARTNERS * (CONNECTIONS_EACH + WAITING_LIMIT))?;
+    let of_partner =
+        |(partner, places): (usize, &Vec<SocketAddr>)| places.iter().map(|place| named(partner, *place)).collect();
+    places.iter().enumerate().map(of_partner).collect::<io::Result<_>>().map(Listeners)
+}
+
+/// Listens; an error names the partner.
+fn named(partner: usize, place: SocketAddr) -> io::Result<std::net::TcpListener> {
+    listen(place).map_err(|error| io::Error::new(error.kind(), format!("{place} of partner {partner}: {error}")))
 }
 
 fn listen(place: SocketAddr) -> io::Result<std::net::TcpListener> {
@@ -91,10 +104,6 @@ impl Listeners {
 
     pub fn into_ports(self) -> Vec<Port> {
         self.0.into_iter().map(Port::new).collect()
-    }
-
-    pub fn count(&self) -> usize {
-        self.0.iter().map(Vec::len).sum()
     }
 }
 

@@ -11,16 +11,15 @@ use std::time::{Duration, Instant};
 use mio::{Poll, Waker};
 
 use crate::clock::Clock;
-use crate::descriptors;
 use crate::event_loop::{EventLoop, Parts, WAKER};
 use crate::limits::Limits;
 use crate::log::Log;
-use crate::port::{Listeners, WAITING_LIMIT};
+use crate::port::Listeners;
 use crate::relay::Relay;
 use crate::saver::Saver;
 use crate::state_file::StateFile;
 use crate::statistics::Statistics;
-use crate::{CONNECTIONS_EACH, PARTNERS};
+use crate::PARTNERS;
 
 /// How long the server's end waits for the log.
 const LOG_WAIT: Duration = Duration::from_secs(2);
@@ -78,7 +77,6 @@ impl Server {
     /// Starts a relay on the listeners: a fresh one, or one that goes on with the state that was saved.
     pub fn start(listeners: Listeners, settings: Settings) -> io::Result<Self> {
         let Settings { clock, log, limits, state } = settings;
-        descriptors::provide(listeners.count() + PARTNERS * (CONNECTIONS_EACH + WAITING_LIMIT))?;
         let log = Arc::new(log);
         let (relay, saver) = begin(clock, state, &log)?;
         let poll = Poll::new()?;

@@ -23,9 +23,8 @@ pub struct StateFile {
 impl StateFile {
     /// Takes the file for this relay, and gives the tables that it holds, if it exists.
     pub fn open(path: &Path) -> io::Result<(Self, Option<Tables>)> {
-        // A link stays one.
-        let path = path.canonicalize().unwrap_or_else(|_| path.to_owned());
         let named = |error| io::Error::other(format!("the state file '{}': {error}", path.display()));
+        let path = resolve(path).map_err(named)?;
         let lock = lock(&beside(&path, ".lock")).map_err(named)?;
         let tables = read(&path).map_err(named)?;
         Ok((Self { path, _lock: lock }, tables))
@@ -35,16 +34,35 @@ impl StateFile {
         let new = beside(&self.path, ".new");
         // A killed relay may have left one.
         let _ = fs::remove_file(&new);
-        let mut file = OpenOptions::new().write(true).create_new(true).mode(MODE).open(&new)?;
-        file.write_all(tables.as_bytes())?;
-        file.sync_all()?;
-        fs::rename(&new, &self.path)?;
+        let saved = write(&new, tables).and_then(|()| fs::rename(&new, &self.path));
+        if saved.is_err() {
+            let _ = fs::remove_file(&new);
+        }
+        saved?;
         File::open(folder(&self.path))?.sync_all()
     }
 
     pub fn path(&self) -> &Path {
         &self.path
     }
+}
+
+/// Where the file is, or will be: a link stays one. What is there must be a plain file of the tables' size.
+fn resolve(path: &Path) -> io::Result<PathBuf> {
+    match path.symlink_metadata() {
+        Err(error) if error.kind() == io::ErrorKind::NotFound => return Ok(path.to_owned()),
+        other => other?,
+    };
+    let path = path.canonicalize()?;
+    let found = path.metadata()?;
+    if !found.is_file() {
+        return Err(io::Error::other("it isn't a plain file"));
+    }
+    if found.len() != Tables::SIZE as u64 {
+        let (length, size) = (found.len(), Tables::SIZE);
+        return Err(io::Error::other(format!("it has {length} bytes and not {size}, so it isn't a state file")));
+    }
+    Ok(path)
 }
 
 /// The file's tables; None if it doesn't exist.
@@ -54,14 +72,18 @@ fn read(path: &Path) -> io::Result<Option<Tables>> {
         Err(error) if error.kind() == io::ErrorKind::NotFound => return Ok(None),
         Err(error) => return Err(error),
     };
-    let length = bytes.len();
-    let Some(tables) = Tables::from_bytes(&bytes) else {
-        return Err(io::Error::other(format!("it has {length} bytes and not {}, so it is none", Tables::SIZE)));
-    };
+    let tables = Tables::from_bytes(&bytes).ok_or_else(|| io::Error::other("it changes its size"))?;
     if tables.clock() >= CLOCK_LIMIT {
         return Err(io::Error::other(format!("its clock is at {}, out of range", tables.clock())));
     }
     Ok(Some(tables))
+}
+
+/// Writes a new file, and waits until its bytes are on the disk.
+fn write(path: &Path, tables: &Tables) -> io::Result<()> {
+    let mut file = OpenOptions::new().write(true).create_new(true).mode(MODE).open(path)?;
+    file.write_all(tables.as_bytes())?;
+    file.sync_all()
 }
 
 fn lock(path: &Path) -> io::Result<File> {

@@ -128,7 +128,11 @@ fn a_folder_that_cannot_be_written_and_a_file_in_use_are_refused() {
     let folder = folder();
     let nowhere = folder.path().join("missing").join("state");
     assert!(refusal(&nowhere).contains("missing"), "{}", refusal(&nowhere));
-    assert!(refusal(folder.path()).contains("the state file"), "a folder is no file");
+    assert!(refusal(folder.path()).contains("it isn't a plain file"), "{}", refusal(folder.path()));
+    assert!(refusal(Path::new("/dev/zero")).contains("it isn't a plain file"), "it has no end");
+    let link = folder.path().join("link");
+    std::os::unix::fs::symlink(&nowhere, &link).expect("a link");
+    assert!(refusal(&link).contains("the state file"), "a link to nothing");
     let file = folder.path().join("state");
     let relay = with_state(SystemClock::new(), &file);
     assert!(refusal(&file).contains("another relay uses it"), "{}", refusal(&file));
