@@ -29,3 +29,18 @@ impl Default for Limits {
         }
     }
 }
+
+#[cfg(test)]
+mod tests {
+    use std::time::Duration;
+
+    use super::Limits;
+
+    /// As `crondelith help serve` tells them.
+    #[test]
+    fn the_usual_limits() {
+        let Limits { patience, least_progress, version, frame, number, last_words } = Limits::default();
+        assert_eq!([patience, version, frame, last_words], [30, 10, 30, 2].map(Duration::from_secs));
+        assert_eq!((least_progress, number), (16_384, Duration::from_millis(100)));
+    }
+}

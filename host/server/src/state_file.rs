@@ -31,15 +31,21 @@ impl StateFile {
     }
 
     pub fn save(&self, tables: &Tables) -> io::Result<()> {
+        self.save_and(tables, File::sync_all)
+    }
+
+    /// Saves the tables, with this as the way to bring a file or a folder to the disk.
+    fn save_and(&self, tables: &Tables, sync: impl Fn(&File) -> io::Result<()>) -> io::Result<()> {
         let new = beside(&self.path, ".new");
         // A killed relay may have left one.
         let _ = fs::remove_file(&new);
-        let saved = write(&new, tables).and_then(|()| fs::rename(&new, &self.path));
+        let written = write(&new, tables).and_then(|file| sync(&file));
+        let saved = written.and_then(|()| fs::rename(&new, &self.path));
         if saved.is_err() {
             let _ = fs::remove_file(&new);
         }
         saved?;
-        File::open(folder(&self.path))?.sync_all()
+        sync(&File::open(folder(&self.path))?)
     }
 
     pub fn path(&self) -> &Path {
@@ -79,11 +85,10 @@ fn read(path: &Path) -> io::Result<Option<Tables>> {
     Ok(Some(tables))
 }
 
-/// Writes a new file, and waits until its bytes are on the disk.
-fn write(path: &Path, tables: &Tables) -> io::Result<()> {
+fn write(path: &Path, tables: &Tables) -> io::Result<File> {
     let mut file = OpenOptions::new().write(true).create_new(true).mode(MODE).open(path)?;
     file.write_all(tables.as_bytes())?;
-    file.sync_all()
+    Ok(file)
 }
 
 fn lock(path: &Path) -> io::Result<File> {
@@ -103,4 +108,47 @@ fn beside(path: &Path, ending: &str) -> PathBuf {
 
 fn folder(path: &Path) -> &Path {
     path.parent().filter(|folder| !folder.as_os_str().is_empty()).unwrap_or(Path::new("."))
+}
+
+#[cfg(test)]
+mod tests {
+    use std::cell::RefCell;
+    use std::fs;
+    use std::io;
+
+    use super::StateFile;
+    use crate::relay::Tables;
+
+    fn tables(byte: u8) -> Tables {
+        let mut bytes = vec![byte; Tables::SIZE];
+        bytes[Tables::SIZE - 8..].fill(0);
+        Tables::from_bytes(&bytes).expect("tables")
+    }
+
+    #[test]
+    fn the_file_is_on_the_disk_before_it_has_its_name_and_the_folder_after() {
+        let folder = tempfile::tempdir().expect("a folder");
+        let path = folder.path().join("state");
+        let (file, _) = StateFile::open(&path).expect("a state file");
+        file.save(&tables(1)).expect("saved");
+        let synced = RefCell::new(Vec::new());
+        let sync = |file: &fs::File| {
+            let named = fs::read(&path)? == tables(2).as_bytes();
+            synced.borrow_mut().push((file.metadata()?.is_dir(), named));
+            Ok(())
+        };
+        file.save_and(&tables(2), sync).expect("saved");
+        assert_eq!(*synced.borrow(), [(false, false), (true, true)]);
+    }
+
+    #[test]
+    fn what_cannot_be_saved_leaves_what_was_there() {
+        let folder = tempfile::tempdir().expect("a folder");
+        let path = folder.path().join("state");
+        let (file, _) = StateFile::open(&path).expect("a state file");
+        file.save(&tables(1)).expect("saved");
+        file.save_and(&tables(2), |_| Err(io::ErrorKind::StorageFull.into())).expect_err("a full disk");
+        assert!(fs::read(&path).expect("a file") == tables(1).as_bytes(), "other tables");
+        assert!(!folder.path().join("state.new").exists());
+    }
 }

@@ -8,7 +8,7 @@ use std::process::{Command, Stdio};
 use std::thread;
 use std::time::{Duration, Instant};
 
-use crate::support::{files, folder, text, write_file, Relay, Running, PROGRAM};
+use crate::support::{files, folder, program, text, write_file, Relay, Running, PROGRAM};
 
 #[test]
 fn a_killed_relay_loses_at_most_its_last_second() {
@@ -87,8 +87,8 @@ fn cpu_seconds(process: u32) -> f64 {
     fields[11..13].iter().map(|field| field.parse::<f64>().expect("a number")).sum::<f64>() / 100.0
 }
 
-/// A connection with its version answered that sends the frame over and over until the time.
-fn flood(port: u16, frame: &[u8], end: Instant) -> TcpStream {
+/// Sends the frame over and over until the time, from a connection with its version answered.
+fn flood(port: u16, frame: &[u8], end: Instant) {
     let mut stream = TcpStream::connect(("127.0.0.1", port)).expect("the relay listens");
     stream.read_exact(&mut [0; 16]).expect("the version");
     stream.write_all(&[0, 3, 1, 1, 1]).expect("an answer");
@@ -98,24 +98,58 @@ fn flood(port: u16, frame: &[u8], end: Instant) -> TcpStream {
         // It is full while the relay pauses.
         let _ = stream.write(&block);
     }
-    stream
+}
+
+/// The seconds of CPU that a relay takes while sixteen connections of two partners send the frame for two seconds.
+fn cpu_in_flood(frame: &[u8]) -> f64 {
+    let relay = Relay::start(&[]);
+    let end = Instant::now() + Duration::from_secs(2);
+    let before = cpu_seconds(relay.program.id());
+    thread::scope(|scope| {
+        for number in 0..16 {
+            let port = relay.base_port + number / 8;
+            scope.spawn(move || flood(port, frame, end));
+        }
+    });
+    cpu_seconds(relay.program.id()) - before
 }
 
 #[test]
-fn a_flood_of_dropped_messages_leaves_the_relay_idle() {
-    let relay = Relay::start(&[]);
-    let frame = [&[4, 2, 1, 11][..], &[7; 1_024]].concat();
-    let end = Instant::now() + Duration::from_secs(2);
+fn floods_of_what_is_dropped_or_waits_leave_the_relay_idle() {
+    let data = [&[4, 2, 1, 11][..], &[7; 1_024]].concat();
+    let keepalive = [0, 2, 1, 13];
+    for frame in [&data[..], &keepalive] {
+        let taken = cpu_in_flood(frame);
+        assert!(taken < 0.6, "{taken} s of CPU in two seconds");
+    }
+}
+
+#[test]
+fn a_relay_without_descriptors_rests_and_goes_on_later() {
+    let mut relay = Relay::start(&[]);
+    relay.program.allow_descriptors(0);
+    let mut waiting = TcpStream::connect(("127.0.0.1", relay.base_port)).expect("the kernel takes it");
+    relay.program.await_line("a connection failed").expect("a line");
     let before = cpu_seconds(relay.program.id());
-    let floods: Vec<_> = (0..16)
-        .map(|number| {
-            let (port, frame) = (relay.base_port + number / 8, frame.clone());
-            thread::spawn(move || flood(port, &frame, end))
-        })
-        .collect();
-    let _streams: Vec<_> = floods.into_iter().map(|flood| flood.join().expect("a flood")).collect();
+    thread::sleep(Duration::from_secs(1));
     let taken = cpu_seconds(relay.program.id()) - before;
-    assert!(taken < 0.6, "{taken} s of CPU in two seconds");
+    assert!(taken < 0.3, "{taken} s of CPU in a second");
+    relay.program.allow_descriptors(1_000);
+    waiting.set_read_timeout(Some(Duration::from_secs(5))).expect("a timeout");
+    waiting.read_exact(&mut [0; 16]).expect("the version");
+}
+
+#[test]
+fn a_relay_can_be_started_again_at_once() {
+    let relay = Relay::start(&[]);
+    let port = relay.base_port.to_string();
+    let mut peer = TcpStream::connect(("127.0.0.1", relay.base_port)).expect("the relay listens");
+    relay.program.signal("TERM");
+    // The relay closes first, so its port stays known to the kernel for a while.
+    peer.read_to_end(&mut Vec::new()).expect("the end");
+    assert_eq!(relay.program.end().status, Some(0));
+    let mut again = Running::start(&mut program(&["serve", "--port", &port]));
+    assert!(again.await_line("the relay runs").is_some());
 }
 
 #[test]

@@ -92,7 +92,7 @@ fn the_demonstration_and_the_benchmark_are_interrupted() {
 fn a_relay_ends_without_a_free_file_descriptor() {
     let relay = Relay::start(&[]);
     let _idle = TcpStream::connect(("127.0.0.1", relay.base_port)).expect("a connection");
-    relay.program.allow_no_descriptor();
+    relay.program.allow_descriptors(0);
     relay.program.signal("TERM");
     assert_eq!(relay.program.end().status, Some(0));
 }
@@ -102,7 +102,7 @@ fn a_receiver_ends_without_a_free_file_descriptor() {
     let relay = Relay::start(&[]);
     let folder = folder("no_descriptor");
     let (receiver, _) = relay.receiver(&folder.join("copy"), &[]);
-    receiver.allow_no_descriptor();
+    receiver.allow_descriptors(0);
     interrupt(receiver, "TERM", "interrupted before the whole file had come");
     assert_eq!(files(&folder), 0);
 }

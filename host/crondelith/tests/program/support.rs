@@ -74,9 +74,9 @@ impl Running {
         self.child.id()
     }
 
-    /// From now on it gets no further file descriptor.
-    pub fn allow_no_descriptor(&self) {
-        self.shell("prlimit --nofile=0 --pid");
+    /// From now on it may have so many file descriptors; those that it has it keeps.
+    pub fn allow_descriptors(&self, count: u32) {
+        self.shell(&format!("prlimit --nofile={count}: --pid"));
     }
 
     /// Runs a command of the shell on the program's process.
