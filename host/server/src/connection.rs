@@ -30,7 +30,7 @@ pub struct Connection {
     pub waits: bool,
     /// The connection that it is in session with.
     pub paired: Option<usize>,
-    /// By when the peer has to have sent what is expected of it: its version answer, or the rest of a frame.
+    /// By when the peer has to have sent what is expected of it: its version answer, the rest of a frame, or its end.
     pub due: Option<Instant>,
     pub progress: Option<Progress>,
 }
@@ -42,7 +42,7 @@ pub enum Phase {
     /// Its version answer hasn't come.
     Greeted,
     Open,
-    /// The engine has closed it; what waits is written.
+    /// The engine has closed it; what waits is written, and the peer's side closed.
     Closing,
 }
 
@@ -82,6 +82,11 @@ impl Connection {
     /// Whether messages are taken from it, as far as it is concerned.
     pub fn is_taken_from(&self) -> bool {
         self.hold.is_none() && matches!(self.phase, Phase::Greeted | Phase::Open)
+    }
+
+    /// Whether its stream is read: also for nobody, when it is closing.
+    pub fn is_read(&self) -> bool {
+        self.is_taken_from() || self.phase == Phase::Closing
     }
 
     /// Whether a SessionEnd can be taken from it.

@@ -91,6 +91,8 @@ pub struct Port {
     pub listeners: Vec<TcpListener>,
     /// Which of the listeners may have connections.
     pub ready: Vec<bool>,
+    /// The listener that was asked last: they take turns.
+    last: usize,
     pub candidates: VecDeque<Candidate>,
     /// Nothing is accepted until then, since accepting has failed.
     pub rests_until: Option<Instant>,
@@ -111,7 +113,7 @@ impl Port {
     fn new(listeners: Vec<std::net::TcpListener>) -> Self {
         let listeners: Vec<_> = listeners.into_iter().map(TcpListener::from_std).collect();
         let ready = vec![true; listeners.len()];
-        Self { listeners, ready, candidates: VecDeque::new(), rests_until: None }
+        Self { listeners, ready, last: 0, candidates: VecDeque::new(), rests_until: None }
     }
 
     /// Takes a connection, if one is there and room for it. It waits for a number until the deadline.
@@ -119,7 +121,11 @@ impl Port {
         if self.candidates.len() >= WAITING_LIMIT {
             return Ok(false);
         }
-        let Some(place) = self.ready.iter().position(|ready| *ready) else { return Ok(false) };
+        let count = self.listeners.len();
+        let Some(place) = (1..=count).map(|step| (self.last + step) % count).find(|place| self.ready[*place]) else {
+            return Ok(false);
+        };
+        self.last = place;
         match self.listeners[place].accept() {
             // It can't be set up if its peer has gone already.
             Ok((stream, address)) => {

@@ -1,5 +1,6 @@
 //! Saves the tables on a thread of its own: a slow disk mustn't hold up the relay.
 
+use std::sync::atomic::{AtomicBool, Ordering};
 use std::sync::mpsc::{self, Receiver, Sender};
 use std::sync::Arc;
 use std::thread::{self, JoinHandle};
@@ -14,6 +15,8 @@ pub struct Saver {
     thread: JoinHandle<()>,
     /// What was handed over last.
     last: Tables,
+    /// It couldn't be saved.
+    failed: Arc<AtomicBool>,
 }
 
 impl Saver {
@@ -23,35 +26,39 @@ impl Saver {
             io::Error::other(format!("the state file '{}' can't be written: {error}", file.path().display()))
         })?;
         let (sender, receiver) = mpsc::channel();
-        let thread = thread::Builder::new().name("state".into()).spawn(move || run(&file, &receiver, &log))?;
-        Ok(Self { tables: sender, thread, last: tables.clone() })
+        let failed = Arc::new(AtomicBool::new(false));
+        let thread = {
+            let failed = Arc::clone(&failed);
+            thread::Builder::new().name("state".into()).spawn(move || run(&file, &receiver, &failed, &log))?
+        };
+        Ok(Self { tables: sender, thread, last: tables.clone(), failed })
     }
 
-    /// Hands the tables over, if they have changed.
+    /// Hands the tables over, if they have changed or couldn't be saved.
     pub fn save(&mut self, tables: &Tables) {
-        if self.last != *tables {
+        if self.failed.swap(false, Ordering::Relaxed) || self.last != *tables {
             self.last = tables.clone();
-            // It fails only if the thread has ended, which the end of the relay then finds.
+            // It fails only if the thread has ended, which nothing ends.
             let _ = self.tables.send(tables.clone());
         }
     }
 
-    /// Saves them for the last time.
-    pub fn finish(mut self, tables: &Tables) {
-        self.save(tables);
+    /// Saves them for the last time, whatever was saved before: the file may have been removed.
+    pub fn finish(self, tables: &Tables) {
+        let _ = self.tables.send(tables.clone());
         drop(self.tables);
         let _ = self.thread.join();
     }
 }
 
-/// Saves what is handed over: the latest, if the disk is slower than the relay. What couldn't be saved is tried again
-/// with the next.
-fn run(file: &StateFile, tables: &Receiver<Tables>, log: &Log) {
+/// Saves what is handed over: the latest, if the disk is slower than the relay.
+fn run(file: &StateFile, tables: &Receiver<Tables>, failed: &AtomicBool, log: &Log) {
     while let Ok(mut latest) = tables.recv() {
         while let Ok(later) = tables.try_recv() {
             drop(mem::replace(&mut latest, later));
         }
         if let Err(error) = file.save(&latest) {
+            failed.store(true, Ordering::Relaxed);
             let event = Event { kind: "not saved", place: Place::Relay };
             log.record(event, None, format_args!("the state isn't saved in '{}': {error}", file.path().display()));
         }

@@ -10,13 +10,18 @@ use crate::log::{Event, Place};
 use crate::port::Candidate;
 use crate::{CONNECTIONS_EACH, PARTNERS};
 
+/// A peer that acknowledges nothing for so long has vanished. It is long, since a peer that reads slowly may do so too.
+const ACKNOWLEDGED_IN: Duration = Duration::from_secs(300);
 /// How long nothing is accepted after accepting has failed, for want of file descriptors say.
 const REST: Duration = Duration::from_millis(100);
 
 impl EventLoop {
-    /// Accepts connections, as many as can have a number or wait for one.
+    /// Accepts connections, as many as can have a number or wait for one. Numbers are given away here only: an event of
+    /// this turn may be about the connection that had one.
     pub(super) fn accept(&mut self) {
+        self.freed = false;
         for partner in 0..self.partners.len() {
+            self.admit(partner);
             while self.accept_one(partner) {
                 self.admit(partner);
             }
@@ -29,8 +34,7 @@ impl EventLoop {
         if port.rests_until.is_some() {
             return false;
         }
-        // The kernel gives up on a peer that is gone later than the loop gives up on one that reads nothing.
-        match port.accept(deadline, 2 * self.limits.patience) {
+        match port.accept(deadline, ACKNOWLEDGED_IN) {
             Ok(goes_on) => goes_on,
             Err(error) => {
                 port.rests_until = Some(self.now + REST);
@@ -42,7 +46,7 @@ impl EventLoop {
     }
 
     /// Gives the numbers that are free to those who wait for one, the lowest first.
-    pub(super) fn admit(&mut self, partner: usize) {
+    fn admit(&mut self, partner: usize) {
         let numbers = partner * CONNECTIONS_EACH..(partner + 1) * CONNECTIONS_EACH;
         for number in numbers {
             if self.connections[number].is_none() {

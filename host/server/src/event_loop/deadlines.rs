@@ -3,7 +3,7 @@
 use std::time::{Duration, Instant};
 
 use super::EventLoop;
-use crate::connection::{Connection, End, Hold, Progress};
+use crate::connection::{Connection, End, Hold, Phase, Progress};
 use crate::log::{Event, Place};
 
 /// How often the state is saved and the clock compared with the machine's.
@@ -45,27 +45,50 @@ impl EventLoop {
     }
 
     fn expire_connection(&mut self, number: usize) {
-        let (now, limits) = (self.now, self.limits);
-        let Some(connection) = &mut self.connections[number] else { return };
+        let now = self.now;
+        let Some(connection) = &self.connections[number] else { return };
         if connection.due.is_some_and(|due| due <= now) {
-            // A message that has come in time may wait for its turn.
-            if connection.input.message().is_some() {
-                connection.due = Some(now + limits.frame);
-            } else {
-                let phase = connection.phase;
-                return self.end(number, End::Silent(phase));
-            }
+            self.expire_due(number);
         }
-        if connection.progress.is_some_and(|progress| progress.since + limits.patience <= now) {
-            let slow = connection.progress.is_some_and(|progress| progress.written < limits.least_progress);
-            if slow {
-                return self.end(number, End::GivenUp);
-            }
-            connection.progress = Some(Progress { since: now, written: 0 });
-        }
+        self.expire_progress(number);
+        let Some(connection) = &mut self.connections[number] else { return };
         if matches!(connection.hold, Some(Hold::Pause(until)) if until <= now) {
             connection.hold = None;
             self.go_on(number);
+        }
+    }
+
+    /// The peer hasn't sent what was expected of it, or hasn't closed its side.
+    fn expire_due(&mut self, number: usize) {
+        let Some(connection) = &mut self.connections[number] else { return };
+        let phase = connection.phase;
+        if phase == Phase::Closing {
+            self.free(number);
+        } else if connection.input.message().is_some() {
+            // A message that has come in time may wait for its turn.
+            connection.due = Some(self.now + self.limits.frame);
+        } else {
+            self.end(number, End::Silent(phase));
+        }
+    }
+
+    /// Gives up a peer that has taken next to nothing of what waits for it.
+    fn expire_progress(&mut self, number: usize) {
+        let (now, limits) = (self.now, self.limits);
+        let is_over = |progress: Progress| progress.since + limits.patience <= now;
+        let progress = |this: &Self| this.connections[number].as_ref().and_then(|connection| connection.progress);
+        if !progress(self).is_some_and(is_over) {
+            return;
+        }
+        // The kernel tells late that there is room again.
+        self.write(number);
+        match progress(self) {
+            Some(progress) if progress.written < limits.least_progress => self.end(number, End::GivenUp),
+            Some(_) => {
+                let next = Some(Progress { since: now, written: 0 });
+                self.connections[number].iter_mut().for_each(|connection| connection.progress = next);
+            }
+            None => {}
         }
     }
 

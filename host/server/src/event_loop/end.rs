@@ -1,10 +1,12 @@
 //! The end of a connection.
 
+use std::io::{self, Read};
+use std::net::Shutdown;
+
 use engine::relay::BUFFER;
 
 use super::EventLoop;
 use crate::connection::{End, Phase};
-use crate::CONNECTIONS_EACH;
 
 impl EventLoop {
     /// Ends a connection in the engine. Its number is free when what waits for its peer is written or given up.
@@ -20,15 +22,39 @@ impl EventLoop {
             }
             self.part(number);
         }
-        if !why.has_last_words() {
-            self.outputs[number].clear(&mut self.spare_outputs);
-        }
         // Nothing is added to its output any more.
         self.release_senders(number);
-        if self.outputs[number].is_empty() {
+        if !why.has_last_words() {
             self.free(number);
+        } else if self.outputs[number].is_empty() {
+            self.say_goodbye(number);
         } else {
             self.filled.push(number);
+        }
+    }
+
+    /// All is written. The stream is closed only when the peer has closed its side, or after a moment: bytes of the peer
+    /// that nobody reads would make the kernel throw away what it hasn't sent yet.
+    pub(super) fn say_goodbye(&mut self, number: usize) {
+        let due = self.now + self.limits.last_words;
+        let Some(connection) = &mut self.connections[number] else { return };
+        if connection.ended || connection.stream.shutdown(Shutdown::Write).is_err() {
+            return self.free(number);
+        }
+        connection.due = Some(due);
+        self.wake_by(due);
+        self.ready.push(number);
+    }
+
+    /// Reads what a peer still sends, for nobody.
+    pub(super) fn discard(&mut self, number: usize) {
+        let Some(connection) = &mut self.connections[number] else { return };
+        match connection.stream.read(&mut self.scratch) {
+            Ok(0) => self.free(number),
+            Ok(_) => self.ready.push(number),
+            Err(error) if error.kind() == io::ErrorKind::WouldBlock => connection.readable = false,
+            Err(error) if error.kind() == io::ErrorKind::Interrupted => self.ready.push(number),
+            Err(_) => self.free(number),
         }
     }
 
@@ -54,6 +80,6 @@ impl EventLoop {
         let _ = self.poll.registry().deregister(&mut connection.stream);
         connection.input.discard(&mut self.spare_inputs);
         self.outputs[number].clear(&mut self.spare_outputs);
-        self.admit(number / CONNECTIONS_EACH);
+        self.freed = true;
     }
 }

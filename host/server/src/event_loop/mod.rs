@@ -69,6 +69,8 @@ pub struct EventLoop {
     ready: Vec<usize>,
     /// Connections whose output something was added to.
     filled: Vec<usize>,
+    /// A number is free that somebody may wait for.
+    freed: bool,
     /// When this turn began.
     now: Instant,
     /// No deadline is earlier.
@@ -124,6 +126,7 @@ impl EventLoop {
             first_partner: 0,
             ready: Vec::new(),
             filled: Vec::new(),
+            freed: false,
             now,
             earliest: now,
             retry: None,
@@ -155,16 +158,17 @@ impl EventLoop {
 
     fn turn(&mut self, events: &mut Events) -> io::Result<()> {
         match self.poll.poll(events, Some(self.time_left())) {
-            Err(error) if error.kind() != io::ErrorKind::Interrupted => return Err(error),
-            _ => {}
+            // What has come meanwhile isn't known yet, so no deadline is judged.
+            Err(error) if error.kind() == io::ErrorKind::Interrupted => return Ok(()),
+            other => other?,
         }
         self.now = Instant::now();
         self.relay.clock().refresh();
         events.iter().for_each(|event| self.note(event));
         self.obey();
-        self.expire();
         self.accept();
         self.read();
+        self.expire();
         self.serve();
         self.write_filled();
         Ok(())
@@ -172,7 +176,8 @@ impl EventLoop {
 
     /// How long to wait for something to happen: not at all while there is something to do.
     fn time_left(&self) -> Duration {
-        let is_busy = !self.ready.is_empty() || self.partners.iter().any(|partner| partner.turns.next().is_some());
+        let is_busy =
+            self.freed || !self.ready.is_empty() || self.partners.iter().any(|partner| partner.turns.next().is_some());
         match is_busy {
             true => Duration::ZERO,
             // The poll counts whole milliseconds and leaves out the rest: then it would come back too early, over and over.

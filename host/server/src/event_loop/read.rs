@@ -16,7 +16,7 @@ impl EventLoop {
         }
         connection.readable |= event.is_readable() || event.is_read_closed();
         connection.read_closed |= event.is_read_closed();
-        if connection.readable && connection.is_taken_from() {
+        if connection.readable && connection.is_read() {
             self.ready.push(number);
         }
         if event.is_writable() {
@@ -36,6 +36,9 @@ impl EventLoop {
 
     fn read_connection(&mut self, number: usize) {
         let Some(connection) = &mut self.connections[number] else { return };
+        if connection.phase == Phase::Closing {
+            return self.discard(number);
+        }
         let has_message = connection.input.message().is_some();
         if !connection.readable || has_message || !connection.is_taken_from() {
             return;

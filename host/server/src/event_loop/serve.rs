@@ -130,6 +130,9 @@ impl EventLoop {
         };
         connection.input.take();
         connection.waits = false;
+        if connection.phase == Phase::Open {
+            connection.due = None;
+        }
         self.count_done(number, length);
         self.deliver_reply(number, answer);
         self.deliver_relay(answer, output);

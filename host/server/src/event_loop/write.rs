@@ -32,13 +32,17 @@ impl EventLoop {
         if self.outputs[number].is_empty() {
             connection.progress = None;
             if connection.phase == Phase::Closing {
-                return self.free(number);
+                return self.say_goodbye(number);
             }
+        } else if self.outputs[number].is_excessive() {
+            return self.end(number, End::GivenUp);
         } else {
-            let progress = connection.progress.get_or_insert(Progress { since: self.now, written: 0 });
-            progress.written += count;
-            let deadline = progress.since + self.limits.patience;
-            self.wake_by(deadline);
+            // What the kernel took before it was full is no progress of the peer's.
+            match &mut connection.progress {
+                Some(progress) => progress.written += count,
+                None => connection.progress = Some(Progress { since: self.now, written: 0 }),
+            }
+            self.wake_by(self.now + self.limits.patience);
         }
         if !self.outputs[number].is_full() {
             self.release_senders(number);

@@ -16,14 +16,15 @@ fn impatient() -> Relay {
     Relay::with_limits(SystemClock::new(), Limits { version: SHORT, frame: SHORT, ..Limits::default() })
 }
 
-/// Sends a byte now and then, and gives how long the relay took it.
+/// Sends a byte now and then, and gives when the relay has closed its side.
 fn trickle(mut socket: Socket, bytes: &[u8]) -> Duration {
     let start = Instant::now();
+    socket.stream.set_read_timeout(Some(SHORT / 8)).expect("a timeout");
     for byte in bytes {
-        if socket.stream.write_all(&[*byte]).is_err() {
+        let _ = socket.stream.write_all(&[*byte]);
+        if socket.is_closed() {
             break;
         }
-        thread::sleep(SHORT / 8);
     }
     start.elapsed()
 }

@@ -8,6 +8,7 @@ use codec::{encode, Message};
 use server::{JumpingClock, Limits};
 use socket2::SockRef;
 
+use crate::clocks::Standing;
 use crate::support::{assert_stops, Relay, Socket};
 
 /// More bytes than the relay and the kernel hold for a peer that reads nothing.
@@ -130,9 +131,12 @@ fn what_waits_is_still_written_when_the_relay_ends() {
         relay.stop();
         start.elapsed()
     });
+    // Both leave when the relay has closed its side.
+    thread::spawn(move || caller.is_closed());
     thread::sleep(Duration::from_millis(500));
     let mut rest = Vec::new();
     holder.stream.read_to_end(&mut rest).expect("the rest");
+    drop(holder);
     let time = stopping.join().expect("the relay's end");
     // Two version answers, a lease request and one to establish are no data; each send has a header of 3 more bytes.
     let data = accepted - 2 * 2 - 2 - 5;
@@ -177,4 +181,39 @@ fn who_requests_much_has_to_read_the_replies() {
     let taken = fill(&mut peer, &requests);
     // Two thirds of it wait in the kernel of the peer, whose own send buffer is large.
     assert!(taken < MOST / 2, "the relay takes {taken} bytes of requests of a peer that reads nothing");
+}
+
+#[test]
+fn what_waits_arrives_though_its_receiver_has_sent_what_nobody_reads() {
+    let relay = Relay::with_clock(JumpingClock::default());
+    let (mut caller, mut holder) = session(&relay);
+    // The caller's output is full, so the holder is held and what it sends next stays unread.
+    fill(&mut holder, &longest_send());
+    fill(&mut caller, &longest_send());
+    let stopping = thread::spawn(move || relay.stop());
+    let mut rest = Vec::new();
+    holder.stream.read_to_end(&mut rest).expect("the rest, and no reset");
+    assert!(rest.len() > 2 * 65_536, "{}", rest.len());
+    stopping.join().expect("the relay's end");
+}
+
+#[test]
+fn who_is_told_more_than_it_reads_is_given_up() {
+    let clock = Standing::default();
+    let relay = Relay::with_clock(clock.clone());
+    let mut holder = relay.peer(0);
+    SockRef::from(&holder.stream).set_recv_buffer_size(SMALL).expect("a size");
+    let id = holder.lease();
+    let start = Instant::now();
+    // Each caller adds a message and is gone: none of them waits for the holder to read.
+    while !relay.has_line("partner 0, connection 0: closed, the peer has read next to nothing") {
+        assert!(start.elapsed() < Limits::default().patience / 2, "what waits for the holder grows without end");
+        clock.advance(2);
+        let mut caller = relay.patient_peer(0);
+        caller.send(Message::EstablishRequest { id });
+        caller.receive();
+        caller.send(Message::DataSend { data: &[7; 65_000] });
+        thread::sleep(Duration::from_millis(20));
+        SockRef::from(&caller.stream).set_linger(Some(Duration::ZERO)).expect("a reset instead of an end");
+    }
 }
