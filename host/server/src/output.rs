@@ -3,20 +3,19 @@
 //! A message that the engine has accepted is always taken, so that the order of the engine's calls is the order on the
 //! wire and nothing is lost. The bound is kept by the connections that fill an output: from one whose last message left
 //! an output at the bound no further message is taken until the output is below it, and TCP slows its peer. So an output
-//! holds at most the bound and one message of each connection of the partner; more, if these come and go. Then its own
-//! connection is given up.
+//! holds at most the bound, a message of the peer in session and a short one of each other connection of the partner;
+//! more, if these come and go. Then the output's own connection is given up.
 
 use std::io::{self, Write};
 
 use frames::{HEADER, MESSAGE_LIMIT};
 
 use crate::spare::Spare;
-use crate::CONNECTIONS_EACH;
 
 /// Bytes, from which on those who fill the output wait.
 pub const BOUND: usize = 65_536;
-/// More can't wait, unless connections fill the output and leave, over and over.
-const EXCESS: usize = BOUND + CONNECTIONS_EACH * (HEADER + MESSAGE_LIMIT);
+/// More can't wait, unless connections add to the output and leave, over and over.
+const EXCESS: usize = 2 * CAPACITY;
 /// Room for the bound and a frame of the largest size. More is needed only if several fill an output at once.
 pub const CAPACITY: usize = BOUND + FRONT + HEADER + MESSAGE_LIMIT;
 /// Where the first frame of an empty output begins: its message's data, after the header and a type byte, is then at a

@@ -10,9 +10,10 @@ use socket2::{Domain, Protocol, SockRef, Socket, TcpKeepalive, Type};
 
 use crate::{descriptors, CONNECTIONS_EACH, PARTNERS};
 
-/// The kernel's buffers of a connection, each; it takes twice as much. Larger ones would let a peer send in advance what
-/// its partner then pays for long after the peer has gone.
-const KERNEL_BUFFER: usize = 131_072;
+/// The kernel's buffers of a connection; it books twice as much. Larger ones would let a peer send in advance what its
+/// partner then pays for long after the peer has gone, and hide how fast a peer reads.
+const RECEIVE_BUFFER: usize = 131_072;
+const SEND_BUFFER: usize = 65_536;
 /// Connections that the kernel keeps for a listener.
 const BACKLOG: i32 = 128;
 /// Connections of a partner that may wait for a number.
@@ -62,8 +63,8 @@ fn listen(place: SocketAddr) -> io::Result<std::net::TcpListener> {
         socket.set_only_v6(true)?;
     }
     // Connections inherit these, which must be set before the handshake agrees on a window.
-    socket.set_recv_buffer_size(KERNEL_BUFFER)?;
-    socket.set_send_buffer_size(KERNEL_BUFFER)?;
+    socket.set_recv_buffer_size(RECEIVE_BUFFER)?;
+    socket.set_send_buffer_size(SEND_BUFFER)?;
     socket.set_nonblocking(true)?;
     socket.bind(&place.into())?;
     socket.listen(BACKLOG)?;
@@ -173,7 +174,7 @@ mod tests {
 
     use socket2::SockRef;
 
-    use super::{bind_free, KERNEL_BUFFER, PROBE_AFTER, PROBE_INTERVAL};
+    use super::{bind_free, PROBE_AFTER, PROBE_INTERVAL, RECEIVE_BUFFER, SEND_BUFFER};
 
     /// A peer that vanishes without a word can't be had on one machine: these are what ends it.
     #[test]
@@ -192,6 +193,6 @@ mod tests {
         assert_eq!(socket.keepalive_interval().expect("an option"), PROBE_INTERVAL);
         assert_eq!(socket.tcp_user_timeout().expect("an option"), Some(limit));
         let sizes = [socket.recv_buffer_size(), socket.send_buffer_size()].map(|size| size.expect("an option"));
-        assert!(sizes.iter().all(|size| (KERNEL_BUFFER..=2 * KERNEL_BUFFER).contains(size)), "{sizes:?}");
+        assert_eq!(sizes, [2 * RECEIVE_BUFFER, 2 * SEND_BUFFER], "as the kernel books them");
     }
 }
