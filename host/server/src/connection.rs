@@ -54,11 +54,21 @@ pub enum Hold {
     Pause(Instant),
 }
 
-/// How much of its output a peer has taken since a moment.
+/// How much of its output a peer has taken since it had last taken enough.
 #[derive(Clone, Copy, Debug)]
 pub struct Progress {
     pub since: Instant,
     pub written: usize,
+}
+
+impl Progress {
+    /// So many bytes more are written. The time begins anew once they are enough, and not before.
+    pub fn add(&mut self, count: usize, enough: usize, now: Instant) {
+        self.written += count;
+        if self.written >= enough {
+            *self = Self { since: now, written: 0 };
+        }
+    }
 }
 
 impl Connection {
@@ -154,5 +164,23 @@ impl fmt::Display for End {
             Self::Stopped => write!(to, "closed, the relay ends"),
             Self::Failed(error) => write!(to, "closed, {error}"),
         }
+    }
+}
+
+#[cfg(test)]
+mod tests {
+    use std::time::{Duration, Instant};
+
+    use super::Progress;
+
+    #[test]
+    fn the_time_begins_anew_when_enough_is_written_and_not_before() {
+        let start = Instant::now();
+        let later = start + Duration::from_secs(1);
+        let mut progress = Progress { since: start, written: 0 };
+        progress.add(99, 100, later);
+        assert_eq!((progress.since, progress.written), (start, 99));
+        progress.add(1, 100, later);
+        assert_eq!((progress.since, progress.written), (later, 0));
     }
 }

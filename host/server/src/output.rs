@@ -129,7 +129,7 @@ impl Output {
 mod tests {
     use std::io::{self, Write};
 
-    use super::{Output, BOUND, CAPACITY};
+    use super::{Output, CAPACITY};
     use crate::spare::Spare;
 
     /// Takes so many bytes at a time, and then no more for once.
@@ -169,7 +169,7 @@ mod tests {
                 output.room(message.len(), &mut spare).copy_from_slice(&message);
                 output.commit(message.len());
             }
-            assert_eq!(output.is_full(), output.len() >= BOUND);
+            assert_eq!(output.is_full(), output.len() >= 65_536);
             output.write_to(&mut stream, &mut spare).expect("a write");
         }
         while !output.is_empty() {

@@ -114,3 +114,18 @@ fn a_log_that_is_not_taken_holds_up_nobody_and_counts_what_is_lost() {
     assert!(taken[1_001].ends_with("500 lines are lost, they came too fast"), "{}", taken[1_001]);
     writer.join().expect("the writer ends");
 }
+
+#[test]
+fn a_flood_is_summed_up_while_the_log_goes_on() {
+    let (to_test, lines) = mpsc::channel();
+    let log = Arc::new(Log::new(LogFormat::Text, move |line| drop(to_test.send(line.to_owned()))));
+    let writer = thread::spawn({
+        let log = Arc::clone(&log);
+        move || log.run()
+    });
+    (0..20).for_each(|_| log.record(REFUSED, None, "again"));
+    let line = || lines.recv_timeout(Duration::from_secs(10)).expect("a sum every five seconds");
+    while !line().ends_with("10 more times 'refused'") {}
+    log.end();
+    writer.join().expect("the writer ends");
+}

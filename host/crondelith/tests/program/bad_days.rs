@@ -87,6 +87,14 @@ fn cpu_seconds(process: u32) -> f64 {
     fields[11..13].iter().map(|field| field.parse::<f64>().expect("a number")).sum::<f64>() / 100.0
 }
 
+/// Watches a relay that has nothing to do for a second.
+fn assert_idle(relay: &Relay) {
+    let before = cpu_seconds(relay.program.id());
+    thread::sleep(Duration::from_secs(1));
+    let taken = cpu_seconds(relay.program.id()) - before;
+    assert!(taken < 0.15, "{taken} s of CPU in a second");
+}
+
 /// Sends the frame over and over until the time, from a connection with its version answered.
 fn flood(port: u16, frame: &[u8], end: Instant) {
     let mut stream = TcpStream::connect(("127.0.0.1", port)).expect("the relay listens");
@@ -124,16 +132,33 @@ fn floods_of_what_is_dropped_or_waits_leave_the_relay_idle() {
     }
 }
 
+/// A loop with something left to do that it can't do would use all of a core.
+#[test]
+fn a_relay_rests_when_its_peers_have_gone() {
+    let relay = Relay::start(&[]);
+    // More than the allowance pays for, so that all of them wait. They leave with the version unread, which is a reset.
+    let bytes = [&[0, 3, 1, 1, 1][..], &[0, 2, 1, 13].repeat(15_000)].concat();
+    let peers: Vec<_> =
+        (0..8).map(|_| TcpStream::connect(("127.0.0.1", relay.base_port)).expect("it listens")).collect();
+    thread::sleep(Duration::from_millis(200));
+    peers.iter().for_each(|mut peer| peer.write_all(&bytes).expect("the kernel takes it"));
+    thread::sleep(Duration::from_millis(500));
+    drop(peers);
+    // One that has sent something and then says nothing is nothing to do either.
+    let mut idle = TcpStream::connect(("127.0.0.1", relay.base_port + 1)).expect("it listens");
+    idle.write_all(&[0, 3, 1, 1, 1, 0, 2, 1, 13]).expect("the relay takes it");
+    // A waiting one's next second begins meanwhile.
+    thread::sleep(Duration::from_millis(1_500));
+    assert_idle(&relay);
+}
+
 #[test]
 fn a_relay_without_descriptors_rests_and_goes_on_later() {
     let mut relay = Relay::start(&[]);
     relay.program.allow_descriptors(0);
     let mut waiting = TcpStream::connect(("127.0.0.1", relay.base_port)).expect("the kernel takes it");
     relay.program.await_line("a connection failed").expect("a line");
-    let before = cpu_seconds(relay.program.id());
-    thread::sleep(Duration::from_secs(1));
-    let taken = cpu_seconds(relay.program.id()) - before;
-    assert!(taken < 0.3, "{taken} s of CPU in a second");
+    assert_idle(&relay);
     relay.program.allow_descriptors(1_000);
     waiting.set_read_timeout(Some(Duration::from_secs(5))).expect("a timeout");
     waiting.read_exact(&mut [0; 16]).expect("the version");

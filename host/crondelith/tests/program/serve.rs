@@ -1,10 +1,12 @@
 //! Where a relay listens, and what it logs.
 
 use std::net::TcpListener;
+use std::time::Duration;
 
 use serde_json::Value;
+use server::Limits;
 
-use crate::support::{folder, run, text, write_file, Relay, Running};
+use crate::support::{folder, program, run, text, write_file, Relay, Running};
 
 #[test]
 fn a_port_in_use_is_named() {
@@ -55,6 +57,9 @@ fn a_relay_listens_on_two_addresses() {
         assert!(relay.first_lines.contains(&line), "{}", relay.first_lines);
     }
     send_between(&relay, "127.0.0.1", "::1");
+    // The IPv6 one doesn't take IPv4 as well.
+    let relay = Relay::start(&["--listen", "0.0.0.0", "--listen", "::"]);
+    send_between(&relay, "127.0.0.1", "::1");
 }
 
 #[test]
@@ -102,4 +107,20 @@ fn the_lines_of_a_json_log_are_json() {
     assert_eq!(ended.status, Some(0));
     let events: Vec<_> = ended.stderr.lines().map(event).collect();
     assert!(events.iter().any(|event| event["partner"] == 3), "{}", ended.stderr);
+}
+
+#[test]
+fn the_help_tells_the_limits() {
+    let Limits { patience, least_progress, version, frame, number, last_words } = Limits::default();
+    let help = Running::start(&mut program(&["help", "serve"])).end().stdout;
+    let help = help.split_whitespace().collect::<Vec<_>>().join(" ");
+    let [patience, version, frame, last_words] = [patience, version, frame, last_words].map(|time| time.as_secs());
+    for told in [
+        format!("takes less than {} KiB of what waits for it in {patience} seconds", least_progress / 1_024),
+        format!("doesn't answer the relay's version in {version}, or leaves a frame unfinished for {frame};"),
+        format!("has {last_words} seconds to be written"),
+    ] {
+        assert!(help.contains(&told), "{told}: {help}");
+    }
+    assert!(number == Duration::from_millis(100) && help.contains("waits a tenth of a second for a number"));
 }

@@ -93,3 +93,14 @@ fn the_sender_refuses_a_confirmation_before_all_is_sent() {
     });
     assert_words(outcome.expect_err("not sent"), &[WRONG_COUNT, "0 of 1,000,000 bytes"]);
 }
+
+/// Where the last byte would be counted, it is confirmed instead.
+#[test]
+fn the_whole_length_is_not_counted() {
+    let file = vec![5; 32_768];
+    let (outcome, _) = receive_at(move |connection| {
+        send_whole(connection, &file);
+        connection.expect(Message::DataSend { data: &confirmation(&file) });
+    });
+    assert_eq!(outcome.expect("a file"), 32_768);
+}

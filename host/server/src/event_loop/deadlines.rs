@@ -3,7 +3,7 @@
 use std::time::{Duration, Instant};
 
 use super::EventLoop;
-use crate::connection::{Connection, End, Hold, Phase, Progress};
+use crate::connection::{Connection, End, Hold, Phase};
 use crate::log::{Event, Place};
 
 /// How often the state is saved and the clock compared with the machine's.
@@ -74,22 +74,18 @@ impl EventLoop {
 
     /// Gives up a peer that has taken next to nothing of what waits for it.
     fn expire_progress(&mut self, number: usize) {
-        let (now, limits) = (self.now, self.limits);
-        let is_over = |progress: Progress| progress.since + limits.patience <= now;
-        let progress = |this: &Self| this.connections[number].as_ref().and_then(|connection| connection.progress);
-        if !progress(self).is_some_and(is_over) {
-            return;
+        if self.is_stalled(number) {
+            // The kernel tells late that there is room again.
+            self.write(number);
         }
-        // The kernel tells late that there is room again.
-        self.write(number);
-        match progress(self) {
-            Some(progress) if progress.written < limits.least_progress => self.end(number, End::GivenUp),
-            Some(_) => {
-                let next = Some(Progress { since: now, written: 0 });
-                self.connections[number].iter_mut().for_each(|connection| connection.progress = next);
-            }
-            None => {}
+        if self.is_stalled(number) {
+            self.end(number, End::GivenUp);
         }
+    }
+
+    fn is_stalled(&self, number: usize) -> bool {
+        let progress = self.connections[number].as_ref().and_then(|connection| connection.progress);
+        progress.is_some_and(|progress| progress.since + self.limits.patience <= self.now)
     }
 
     fn save_state(&mut self) {

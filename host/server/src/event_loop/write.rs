@@ -39,7 +39,7 @@ impl EventLoop {
         } else {
             // What the kernel took before it was full is no progress of the peer's.
             match &mut connection.progress {
-                Some(progress) => progress.written += count,
+                Some(progress) => progress.add(count, self.limits.least_progress, self.now),
                 None => connection.progress = Some(Progress { since: self.now, written: 0 }),
             }
             self.wake_by(self.now + self.limits.patience);

@@ -4,7 +4,7 @@ use std::time::Duration;
 
 use codec::{encode, Message};
 
-use crate::clocks::{Backward, Standing};
+use crate::clocks::{Backward, Counted, Standing};
 use crate::support::{assert_stops, Relay, Socket, LIMIT};
 
 /// Data that costs a whole second's refill.
@@ -170,4 +170,16 @@ fn a_waiting_partner_holds_up_no_neighbour() {
         assert_eq!(holder.receive(), encode(&Message::DataReceive { data: b"quiet" }));
     }
     assert!(start.elapsed() < Duration::from_secs(2), "{:?}", start.elapsed());
+}
+
+#[test]
+fn a_message_that_waits_is_not_offered_before_the_next_second() {
+    let clock = Counted::default();
+    let relay = Relay::with_clock(clock.clone());
+    let mut peers = [relay.peer(0), relay.peer(0)];
+    peers.iter_mut().for_each(|peer| peer.send_bytes(&[0, 2, 1, 13].repeat(10_000)));
+    relay.await_waits(0, 1);
+    let before = clock.readings();
+    std::thread::sleep(Duration::from_millis(300));
+    assert_eq!(clock.readings(), before, "each call reads the clock");
 }

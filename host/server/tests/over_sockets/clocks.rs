@@ -51,3 +51,24 @@ impl Clock for Backward {
         SOON
     }
 }
+
+/// Stands, has no next second for long, and counts how often it is read.
+#[derive(Clone, Default)]
+pub struct Counted(Arc<AtomicU64>);
+
+impl Counted {
+    pub fn readings(&self) -> u64 {
+        self.0.load(Ordering::SeqCst)
+    }
+}
+
+impl Clock for Counted {
+    fn now(&mut self) -> u64 {
+        self.0.fetch_add(1, Ordering::SeqCst);
+        0
+    }
+
+    fn until_next(&self) -> Duration {
+        Duration::from_secs(60)
+    }
+}

@@ -7,6 +7,7 @@ use std::time::{Duration, Instant};
 use codec::Message;
 use server::{Limits, SystemClock};
 
+use crate::clocks::Standing;
 use crate::support::{Relay, Socket};
 
 const SHORT: Duration = Duration::from_millis(400);
@@ -62,4 +63,35 @@ fn who_begins_a_frame_has_to_end_it() {
     }
     slow.send(Message::Keepalive);
     assert!(slow.lease() < 1 << 26);
+}
+
+#[test]
+fn an_answer_that_came_in_time_may_wait_for_its_turn() {
+    let clock = Standing::default();
+    let limits = Limits { version: 2 * SHORT, frame: SHORT, ..Limits::default() };
+    let relay = Relay::with_limits(clock.clone(), limits);
+    let (mut flood, mut waiting) = (relay.peer(0), relay.socket(0));
+    waiting.receive().expect("the version");
+    let mut keepalives = Vec::new();
+    (0..262_144 / 33 + 1).for_each(|_| frames::append(&[13], &mut keepalives).expect("a frame"));
+    flood.send_bytes(&keepalives);
+    relay.await_waits(0, 1);
+    waiting.send(Message::VersionAnswer { ok: 1 });
+    thread::sleep(4 * SHORT);
+    clock.advance(4);
+    assert!(waiting.lease() < 1 << 26, "it isn't taken for silent while it waits for allowance");
+}
+
+#[test]
+fn each_frame_has_a_time_of_its_own() {
+    let relay = impatient();
+    let mut peer = relay.peer(0);
+    // Each piece ends a frame and begins the next, so that one is always unfinished.
+    peer.send_bytes(&[0, 2]);
+    for _ in 0..12 {
+        thread::sleep(SHORT / 4);
+        peer.send_bytes(&[1, 13, 0, 2]);
+    }
+    peer.send_bytes(&[1, 13]);
+    assert!(peer.lease() < 1 << 26);
 }

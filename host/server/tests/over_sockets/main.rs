@@ -4,6 +4,7 @@ mod allowance;
 mod clocks;
 mod deadlines;
 mod floods;
+mod log_lines;
 mod numbers;
 mod slow_readers;
 mod sockets;

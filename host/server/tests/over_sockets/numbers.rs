@@ -16,10 +16,15 @@ fn eight(relay: &Relay, partner: usize) -> Vec<Socket> {
 fn a_ninth_connection_waits_a_moment_and_is_refused() {
     let relay = Relay::start();
     let mut eight = eight(&relay, 3);
-    let start = Instant::now();
-    assert_eq!(relay.socket(3).receive(), None);
-    let waited = start.elapsed();
-    assert!(waited >= Duration::from_millis(100) && waited < Duration::from_secs(1), "{waited:?}");
+    let wait = |_| {
+        let start = Instant::now();
+        assert_eq!(relay.socket(3).receive(), None);
+        start.elapsed()
+    };
+    // One after the other: a relay that only looks now and then would let the later ones wait for that.
+    let waits: Vec<_> = (0..4).map(wait).collect();
+    assert!(waits.iter().all(|wait| *wait >= Duration::from_millis(100)), "{waits:?}");
+    assert!(waits[1..].iter().any(|wait| *wait < Duration::from_millis(300)), "{waits:?}");
     relay.await_line("partner 3: a connection is refused, all 8 of this partner are in use");
     assert!(relay.peer(4).lease() < 1 << 26, "another partner has eight of its own");
     assert!(eight.iter_mut().all(|peer| peer.lease() < 1 << 26));
@@ -83,6 +88,17 @@ fn refused_connections_come_at_a_bounded_rate() {
             waiting.into_iter().filter_map(|stream| Socket::over(stream).receive().is_none().then_some(())).count();
     }
     assert!((4..=28).contains(&refused), "{refused} in half a second: each waits a tenth of one");
+}
+
+#[test]
+fn eight_wait_for_a_number_at_a_time() {
+    let limits = Limits { number: Duration::from_millis(300), ..Limits::default() };
+    let relay = Relay::with_limits(SystemClock::new(), limits);
+    let _eight = eight(&relay, 2);
+    let start = Instant::now();
+    let waiting: Vec<_> = (0..24).map(|_| relay.socket(2)).collect();
+    assert!(waiting.into_iter().all(|mut socket| socket.receive().is_none()));
+    assert!(start.elapsed() >= 3 * limits.number, "the others wait in the kernel: {:?}", start.elapsed());
 }
 
 /// A number that is lost stays in use for ever: eight of them, and the partner has none left.

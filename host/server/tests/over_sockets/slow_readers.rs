@@ -1,6 +1,7 @@
 //! A peer that reads nothing, or next to nothing: its senders wait, others don't, and the relay's memory stays bounded.
 
 use std::io::{Read, Write};
+use std::net::TcpStream;
 use std::thread;
 use std::time::{Duration, Instant};
 
@@ -18,7 +19,7 @@ const MOST: usize = 1 << 24;
 const BUFFERS: usize = 1 << 20;
 
 /// What may come between the test and the relay.
-const SLACK: Duration = Duration::from_millis(600);
+const SLACK: Duration = Duration::from_millis(1_500);
 /// Of a peer's own kernel buffers.
 const SMALL: usize = 32_768;
 
@@ -74,7 +75,7 @@ fn time_until_given_up(bytes: usize, limits: Limits) -> Option<Duration> {
     let (mut caller, mut holder) = session(&relay);
     fill(&mut caller, &longest_send());
     let start = Instant::now();
-    while start.elapsed() < 2 * limits.patience + SLACK {
+    while start.elapsed() < limits.patience + SLACK {
         if relay.has_line("partner 0, connection 1: closed, the peer has read next to nothing for too long") {
             assert_eq!(caller.receive(), encode(&Message::SessionEndNotification));
             return Some(start.elapsed());
@@ -88,12 +89,14 @@ fn time_until_given_up(bytes: usize, limits: Limits) -> Option<Duration> {
 
 #[test]
 fn who_reads_next_to_nothing_is_given_up_in_time() {
-    let limits = Limits { patience: Duration::from_secs(1), least_progress: 60_000, ..Limits::default() };
-    for bytes in [0, 1_000] {
-        // It was full some 300 ms before, and progress is looked at once in the time.
-        let time = time_until_given_up(bytes, limits).expect("given up");
-        assert!(time + SLACK > limits.patience, "{bytes}: {time:?}");
+    let limits = Limits { patience: Duration::from_secs(2), ..Limits::default() };
+    for (bytes, least_progress) in [(0, 16_384), (1_000, 60_000)] {
+        let time = time_until_given_up(bytes, Limits { least_progress, ..limits }).expect("given up");
+        // Its output was full about a second before all buffers on the way were.
+        let earlier = Duration::from_millis(1_500);
+        assert!(time + earlier > limits.patience && time < limits.patience + SLACK, "{bytes}: {time:?}");
     }
+    let limits = Limits { least_progress: 60_000, ..limits };
     assert_eq!(time_until_given_up(20_000, limits), None, "who reads slowly is served");
 }
 
@@ -109,6 +112,9 @@ fn after_a_peer_is_given_up_its_sender_goes_on() {
     caller.stream.set_write_timeout(Some(crate::support::LIMIT)).expect("a timeout");
     caller.send_bytes(&frame[taken % frame.len()..]);
     assert!(caller.lease() < 1 << 26);
+    // The number of the one that was given up is free, though it still reads nothing.
+    let mut seven: Vec<_> = (0..7).map(|_| relay.patient_peer(0)).collect();
+    assert!(seven.iter_mut().all(|peer| peer.lease() < 1 << 26));
 }
 
 #[test]
@@ -126,8 +132,9 @@ fn what_waits_is_still_written_when_the_relay_ends() {
     let (mut caller, mut holder) = session(&relay);
     fill(&mut caller, &longest_send());
     let accepted = relay.server.statistics()[0].bytes;
+    // Before the thread, which may begin late.
+    let start = Instant::now();
     let stopping = thread::spawn(move || {
-        let start = Instant::now();
         relay.stop();
         start.elapsed()
     });
@@ -156,6 +163,23 @@ fn who_reads_nothing_is_not_waited_for_when_the_relay_ends() {
     relay.stop();
     let time = start.elapsed();
     assert!(time >= Limits::default().last_words && time < 3 * Limits::default().last_words, "{time:?}");
+}
+
+#[test]
+fn nobody_is_taken_while_the_relay_ends() {
+    let relay = Relay::with_clock(JumpingClock::default());
+    let address = relay.server.addresses()[1];
+    let (mut caller, _holder) = session(&relay);
+    fill(&mut caller, &longest_send());
+    let start = Instant::now();
+    let stopping = thread::spawn(move || relay.stop());
+    // It goes on for two seconds, since a peer reads nothing.
+    while TcpStream::connect(address).is_ok() {
+        assert!(start.elapsed() < Duration::from_secs(1), "it still listens");
+        thread::sleep(Duration::from_millis(10));
+    }
+    assert!(!stopping.is_finished());
+    stopping.join().expect("the relay's end");
 }
 
 #[test]

@@ -99,3 +99,23 @@ fn a_message_without_a_session_is_dropped_and_the_connection_goes_on() {
     let refused = "partner 6, connection 48: refused with 8, there is no session: the message is dropped";
     assert_eq!(log.iter().filter(|line| *line == refused).count(), 2, "{log:?}");
 }
+
+/// What the relay tells both of a new session.
+fn session_told(relay: &Relay) -> [Vec<u8>; 2] {
+    let (mut caller, mut holder) = (relay.peer(0), relay.peer(0));
+    let id = holder.lease();
+    caller.send(Message::EstablishRequest { id });
+    // Without the id, and the type and status before it.
+    let (answer, told) = (caller.receive().expect("an answer"), holder.receive().expect("a notification"));
+    [answer[6..].to_vec(), told[1..].to_vec()]
+}
+
+#[test]
+fn every_session_has_random_bytes_of_its_own() {
+    let relay = Relay::start();
+    let (first, second) = (session_told(&relay), session_told(&relay));
+    for (first, second) in first.iter().zip(&second) {
+        let same = first.iter().zip(second).filter(|(first, second)| first == second).count();
+        assert!(first.len() >= 48 && same < 8, "{same} of {} bytes are the same: {first:?}, {second:?}", first.len());
+    }
+}

@@ -167,3 +167,59 @@ fn only_its_owner_can_read_it() {
         fs::read_dir(folder.path()).expect("a folder").flatten().map(|entry| entry.file_name()).collect();
     assert!(!left.iter().any(|name| name == "state.new"), "{left:?}");
 }
+
+#[test]
+fn nothing_is_written_while_nothing_changes() {
+    use std::os::unix::fs::MetadataExt;
+    let folder = folder();
+    let file = folder.path().join("state");
+    let _relay = with_state(SystemClock::new(), &file);
+    // A save makes another file of that name.
+    let inode = || fs::metadata(&file).expect("a file").ino();
+    let before = inode();
+    thread::sleep(Duration::from_millis(1_200));
+    assert_eq!(inode(), before);
+}
+
+#[test]
+fn what_a_killed_relay_left_half_written_is_no_hindrance() {
+    let folder = folder();
+    let file = folder.path().join("state");
+    fs::write(folder.path().join("state.new"), "half").expect("a file");
+    with_state(SystemClock::new(), &file).stop();
+    assert_eq!(fs::read(&file).expect("a state").len(), SIZE);
+}
+
+#[test]
+fn a_link_to_the_file_stays_one() {
+    let folder = folder();
+    let (file, link) = (folder.path().join("state"), folder.path().join("link"));
+    with_state(SystemClock::new(), &file).stop();
+    std::os::unix::fs::symlink("state", &link).expect("a link");
+    let relay = with_state(SystemClock::new(), &link);
+    // Whatever it is called, it is one file.
+    assert!(refusal(&file).contains("another relay uses it"), "{}", refusal(&file));
+    relay.stop();
+    assert!(fs::symlink_metadata(&link).expect("a link").is_symlink());
+}
+
+#[test]
+fn what_could_not_be_saved_is_told_and_saved_at_the_end() {
+    let folder = folder();
+    let (there, away) = (folder.path().join("there"), folder.path().join("away"));
+    fs::create_dir(&there).expect("a folder");
+    let file = there.join("state");
+    let relay = with_state(SystemClock::new(), &file);
+    let fresh = fs::read(&file).expect("a state");
+    fs::rename(&there, &away).expect("the folder is gone");
+    let mut peer = relay.peer(0);
+    peer.lease();
+    peer.leave();
+    relay.await_line("partner 0, connection 0: closed");
+    relay.await_line("the relay: the state isn't saved in");
+    // Nothing changes any more from here on, and what wasn't saved has been handed over.
+    thread::sleep(Duration::from_millis(1_200));
+    fs::rename(&away, &there).expect("the folder is back");
+    relay.stop();
+    assert!(fs::read(&file).expect("a state") != fresh, "the lease is lost");
+}
