@@ -69,6 +69,12 @@ pub enum Error {
     Exists(PathBuf),
     /// Something that isn't a plain file has the name already.
     NotPlain(PathBuf),
+    /// The path ends as only a folder's does.
+    Folder(PathBuf),
+    /// Another file has taken this name of the received one.
+    Replaced(PathBuf),
+    /// The file was to be kept when the program was asked to end.
+    Interrupted,
     Thread(io::Error),
     /// A transfer failed after this many bytes.
     Sending {
@@ -128,6 +134,9 @@ impl fmt::Display for Error {
             Self::ReadBack(error) => write!(to, "the file can't be read back after it was written: {error}"),
             Self::Exists(path) => write!(to, "'{}' exists already", path.display()),
             Self::NotPlain(path) => write!(to, "'{}' isn't a plain file", path.display()),
+            Self::Folder(path) => write!(to, "'{}' names a folder", path.display()),
+            Self::Replaced(path) => write!(to, "another file has replaced the received one at '{}'", path.display()),
+            Self::Interrupted => write!(to, "interrupted before the file had its name"),
             Self::Thread(error) => write!(to, "a thread can't be started: {error}"),
             Self::Sending { arrived, length, cause } => {
                 write!(to, "{cause}; {} of {} bytes had arrived", grouped(*arrived), grouped(*length))
