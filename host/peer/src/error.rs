@@ -15,6 +15,10 @@ pub enum Error {
     ClosedBeforeVersion,
     /// The first message is another.
     NoVersion,
+    /// The first message is malformed.
+    MalformedVersion(Box<Error>),
+    /// No version message has come in this time.
+    Silent(Duration),
     /// A version other than 1.0. The peer has answered that it isn't acceptable.
     UnknownVersion {
         major: u16,
@@ -61,6 +65,8 @@ pub enum Error {
     Shorter,
     /// It went on after its announced length.
     Longer,
+    /// It was written to meanwhile.
+    Modified,
     /// The file to receive can't be written.
     Write(io::Error),
     /// What was written of it can't be read again.
@@ -94,12 +100,22 @@ impl Error {
     pub(crate) fn malformed(message: &[u8]) -> Self {
         Self::Malformed { kind: message.first().copied(), length: message.len() }
     }
+
+    /// Whether it is about the file, whose name its text hasn't.
+    pub fn lacks_name(&self) -> bool {
+        match self {
+            Self::Read(_) | Self::Shorter | Self::Longer | Self::Modified => true,
+            Self::Write(_) | Self::ReadBack(_) | Self::Changed => true,
+            Self::Sending { cause, .. } | Self::Receiving { cause, .. } => cause.lacks_name(),
+            _ => false,
+        }
+    }
 }
 
 const NOTHING_LISTENS: &str = "nothing listens there; perhaps the relay isn't running, or has another base port";
 const CLOSED_BEFORE_VERSION: &str = "the relay closed the connection before its version message; perhaps all eight \
                                      connections of the partner are in use, or its allowance is used up";
-const NO_VERSION: &str = "the first message isn't the relay's version; perhaps it is no relay that listens there";
+const NO_RELAY: &str = "perhaps it is no relay that listens there";
 const LEASE_REFUSED: &str = "the relay granted no id; perhaps all sixteen leases of the partner run (each does for an \
                              hour, even if its holder has gone), or this connection holds an id already";
 
@@ -108,7 +124,11 @@ impl fmt::Display for Error {
         match self {
             Self::Unreachable(error) => write_unreachable(error, to),
             Self::ClosedBeforeVersion => write!(to, "{CLOSED_BEFORE_VERSION}"),
-            Self::NoVersion => write!(to, "{NO_VERSION}"),
+            Self::NoVersion => write!(to, "the first message isn't the relay's version; {NO_RELAY}"),
+            Self::MalformedVersion(cause) => write!(to, "{cause}; {NO_RELAY}"),
+            Self::Silent(time) => {
+                write!(to, "no version message of a relay has come in {} s; {NO_RELAY}", time.as_secs_f32())
+            }
             Self::UnknownVersion { major, minor } => {
                 write!(to, "the relay speaks version {major}.{minor} of the protocol, this peer only 1.0")
             }
@@ -130,6 +150,7 @@ impl fmt::Display for Error {
             Self::Read(error) => write!(to, "the file can't be read: {error}"),
             Self::Shorter => write!(to, "the file is shorter now than when its length was announced"),
             Self::Longer => write!(to, "the file is longer now than when its length was announced"),
+            Self::Modified => write!(to, "the file changed while it was sent"),
             Self::Write(error) => write!(to, "the file can't be written: {error}"),
             Self::ReadBack(error) => write!(to, "the file can't be read back after it was written: {error}"),
             Self::Exists(path) => write!(to, "'{}' exists already", path.display()),
