@@ -1,9 +1,14 @@
 //! A file through a relay.
 
 use std::fs;
+use std::io::Write;
+use std::net::TcpListener;
 use std::time::Duration;
 
-use crate::support::{folder, text, write_file, Relay, Running};
+use codec::{Message, Session};
+use peer::Fingerprint;
+
+use crate::support::{files, folder, program, run, text, write_file, Relay, Running};
 
 #[test]
 fn a_file_goes_through_the_relay() {
@@ -53,4 +58,64 @@ fn a_transfer_that_stands_still_is_given_up_at_its_limit() {
     let ended = sender.end_within(Duration::from_secs(8));
     assert_eq!(ended.status, Some(1), "{}", ended.stderr);
     assert!(ended.last_line().contains("2 s"), "{}", ended.stderr);
+}
+
+/// What a relay sends to a receiver: a file of these bytes, and more than it announced.
+fn too_much(file: &[u8]) -> Vec<u8> {
+    let digest = Fingerprint::read(file).expect("bytes").digest;
+    let messages = [
+        Message::ProtocolVersion { major: 1, minor: 0 },
+        Message::LeaseGranted { id: 5, cookie: &[7; 24], expiration: 1 << 39 },
+        Message::EstablishNotification { session: Session { id: &[9; 16], peer: &[9; 16], key: &[9; 16] } },
+        Message::DataReceive { data: &(file.len() as u64).to_be_bytes() },
+        Message::DataReceive { data: file },
+        Message::DataReceive { data: &digest },
+        Message::DataReceive { data: b"more" },
+    ];
+    let mut frames = Vec::new();
+    for message in messages {
+        frames::append(&codec::encode(&message).expect("a message"), &mut frames).expect("a frame");
+    }
+    frames
+}
+
+#[test]
+fn a_file_that_has_come_is_no_failure_however_the_transfer_ends() {
+    let relay = TcpListener::bind("127.0.0.1:0").expect("a port");
+    let address = relay.local_addr().expect("its address").to_string();
+    let copy = folder("only_parting_fails").join("copy");
+    let receiver = Running::start(&mut program(&["peer", "receive", text(&copy), "--relay", &address]));
+    let (mut connection, _) = relay.accept().expect("the receiver's connection");
+    connection.write_all(&too_much(b"one")).expect("sent");
+    let ended = receiver.end();
+    assert_eq!(ended.status, Some(0), "{}", ended.stderr);
+    assert!(ended.last_line().contains("is complete, but the sender may not know"), "{}", ended.stderr);
+    assert_eq!(fs::read(&copy).expect("the copy"), b"one");
+}
+
+#[test]
+fn a_name_that_is_taken_meanwhile_is_told_once() {
+    let relay = Relay::start(&[]);
+    let folder = folder("taken_meanwhile");
+    let copy = folder.join("copy");
+    let (receiver, id) = relay.receiver(&copy, &[]);
+    fs::write(&copy, "another").expect("a file");
+    let sender = Running::start(&mut relay.peer(&["send", &id, "/etc/passwd"])).end();
+    assert_eq!(sender.status, Some(1), "{}", sender.stderr);
+    let ended = receiver.end();
+    assert_eq!(ended.status, Some(1), "{}", ended.stderr);
+    assert_eq!(ended.last_line(), format!("crondelith: '{}' exists already", text(&copy)));
+    assert_eq!(files(&folder), 1, "the other alone");
+}
+
+#[test]
+fn a_name_that_no_file_can_have_is_a_wrong_argument() {
+    let folder = folder("wrong_name");
+    let long = folder.join("x".repeat(256));
+    for (path, reason) in [(text(&long), "too long"), ("newdir/", "'newdir/' names a folder")] {
+        let ended = run(&["peer", "receive", path]);
+        assert_eq!(ended.status, Some(2), "{}", ended.stderr);
+        assert!(ended.last_line().contains(reason), "{}", ended.stderr);
+        assert!(ended.last_line().contains(path), "{}", ended.stderr);
+    }
 }
