@@ -52,7 +52,7 @@ impl Signals {
 /// isn't asking again: the shell and the system both send it when a terminal is closed.
 fn watch(mut pending: iterator::Signals, first: &Sender<()>) {
     let mut asked = None;
-    for signal in &mut pending.forever() {
+    for signal in pending.forever() {
         let since = asked.get_or_insert_with(Instant::now).elapsed();
         // Nobody waits any more if it isn't the first.
         let _ = first.send(());
