@@ -90,7 +90,8 @@ struct Options {
 
     /// Give up a transfer that stands still for so long; for the sender the
     /// time counts in which the receiver writes to its disk [default: never]
-    #[arg(long, global = true, verbatim_doc_comment, value_name = "SECONDS", value_parser = value_parser!(u32).range(1..))]
+    #[arg(long, global = true, verbatim_doc_comment, value_name = "SECONDS",
+        value_parser = value_parser!(u32).range(1..))]
     timeout: Option<u32>,
 
     /// Replace FILE if it exists
@@ -128,28 +129,29 @@ fn receive(file: &Path, options: &Options) -> Outcome {
 
 /// Waits for a sender and keeps its file. The sender isn't told yet.
 fn receive_at(mut peer: Peer, file: &Path, options: &Options, watch: &Watch) -> Result<(Peer, Fingerprint), Failure> {
-    let named = |error| failed_at(file, error);
-    let mut part = PartFile::create(file, options.force).map_err(named)?;
+    let at_file = |error| failed_at(file, error);
+    let mut part = PartFile::create(file, options.force).map_err(at_file)?;
     print_id(peer.lease().map_err(failed)?)?;
     note("waiting for a sender; the id is its first argument");
     await_session(&mut peer)?;
-    let sent = show(|progress| receive_contents(&mut peer, &mut part, options.patience(), progress)).map_err(named)?;
-    let kept = part.keep_on(&SystemDisk, &sent, || watch.interrupted()).map_err(named)?;
+    let sent =
+        show(|progress| receive_contents(&mut peer, &mut part, options.patience(), progress)).map_err(at_file)?;
+    let kept = part.keep_on(&SystemDisk, &sent, || watch.interrupted()).map_err(at_file)?;
     Ok((peer, kept))
 }
 
 /// Tells the sender which file is kept, and parts. The file is there, so an error in this is only told.
 fn part_with(mut peer: Peer, file: &Path, kept: &Fingerprint, watch: &Watch) {
-    let path = file.display();
+    let complete = format!("'{}' is complete", file.display());
     match confirm(&mut peer, kept) {
         Ok(()) => {
-            note(&format!("'{path}' is complete"));
+            note(&complete);
             finish(peer);
         }
-        Err(_) if watch.interrupted() => {
-            note(&format!("'{path}' is complete, but the sender may not know: interrupted"))
+        Err(error) => {
+            let why = if watch.interrupted() { "interrupted".into() } else { error.to_string() };
+            note(&format!("{complete}, but the sender may not know: {why}"));
         }
-        Err(error) => note(&format!("'{path}' is complete, but the sender may not know: {error}")),
     }
 }
 

@@ -43,7 +43,7 @@ impl Signals {
 
     /// Waits for the first signal, which may have come already.
     pub fn wait(&mut self) {
-        // It fails only if the watching thread is gone, with which nothing would end the program.
+        // It fails if the watching thread is gone; then it is better to end than to hear no signal.
         let _ = self.0.recv();
     }
 }

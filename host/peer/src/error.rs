@@ -126,12 +126,8 @@ impl fmt::Display for Error {
             Self::ClosedBeforeVersion => write!(to, "{CLOSED_BEFORE_VERSION}"),
             Self::NoVersion => write!(to, "the first message isn't the relay's version; {NO_RELAY}"),
             Self::MalformedVersion(cause) => write!(to, "{cause}; {NO_RELAY}"),
-            Self::Silent(time) => {
-                write!(to, "no version message of a relay has come in {} s; {NO_RELAY}", time.as_secs_f32())
-            }
-            Self::UnknownVersion { major, minor } => {
-                write!(to, "the relay speaks version {major}.{minor} of the protocol, this peer only 1.0")
-            }
+            Self::Silent(time) => write!(to, "no version has come in {} s; {NO_RELAY}", time.as_secs_f32()),
+            Self::UnknownVersion { major, minor } => write_version(*major, *minor, to),
             Self::NoAnswer => write!(to, "the relay hasn't answered in time"),
             Self::Closed | Self::ClosedMidway => write!(to, "the relay stopped or closed the connection"),
             Self::Connection(error) => write!(to, "the connection to the relay failed: {error}"),
@@ -159,9 +155,7 @@ impl fmt::Display for Error {
             Self::Replaced(path) => write!(to, "another file has replaced the received one at '{}'", path.display()),
             Self::Interrupted => write!(to, "interrupted before the file had its name"),
             Self::Thread(error) => write!(to, "a thread can't be started: {error}"),
-            Self::Sending { arrived, length, cause } => {
-                write!(to, "{cause}; {} of {} bytes had arrived", grouped(*arrived), grouped(*length))
-            }
+            Self::Sending { arrived, length, cause } => write_moved(cause, *arrived, *length, "arrived", to),
             Self::Receiving { come, length, cause } => write_receiving(*come, *length, cause, to),
         }
     }
@@ -181,9 +175,17 @@ fn write_malformed(kind: Option<u8>, length: usize, to: &mut fmt::Formatter) -> 
     }
 }
 
+fn write_version(major: u16, minor: u16, to: &mut fmt::Formatter) -> fmt::Result {
+    write!(to, "the relay speaks version {major}.{minor} of the protocol, this peer only 1.0")
+}
+
+fn write_moved(cause: &Error, done: u64, length: u64, how: &str, to: &mut fmt::Formatter) -> fmt::Result {
+    write!(to, "{cause}; {} of {} bytes had {how}", grouped(done), grouped(length))
+}
+
 fn write_receiving(come: u64, length: Option<u64>, cause: &Error, to: &mut fmt::Formatter) -> fmt::Result {
     match length {
-        Some(length) => write!(to, "{cause}; {} of {} bytes had come", grouped(come), grouped(length)),
+        Some(length) => write_moved(cause, come, length, "come", to),
         None => write!(to, "{cause}; no byte had come, nor the length"),
     }
 }

@@ -2,7 +2,8 @@
 
 use std::fs;
 use std::io::Write;
-use std::net::TcpListener;
+use std::net::{TcpListener, TcpStream};
+use std::path::Path;
 use std::time::Duration;
 
 use codec::{Message, Session};
@@ -60,37 +61,64 @@ fn a_transfer_that_stands_still_is_given_up_at_its_limit() {
     assert!(ended.last_line().contains("2 s"), "{}", ended.stderr);
 }
 
-/// What a relay sends to a receiver: a file of these bytes, and more than it announced.
-fn too_much(file: &[u8]) -> Vec<u8> {
-    let digest = Fingerprint::read(file).expect("bytes").digest;
-    let messages = [
+/// A receiver at a relay of the test's own, which sends it a file of one byte, all but the digest.
+fn receiver_of_a_byte(copy: &Path) -> (Running, TcpStream) {
+    let relay = TcpListener::bind("127.0.0.1:0").expect("a port");
+    let address = relay.local_addr().expect("its address").to_string();
+    let mut receiver = Running::start(&mut program(&["peer", "receive", text(copy), "--relay", &address]));
+    let (mut connection, _) = relay.accept().expect("the receiver's connection");
+    for message in [
         Message::ProtocolVersion { major: 1, minor: 0 },
         Message::LeaseGranted { id: 5, cookie: &[7; 24], expiration: 1 << 39 },
         Message::EstablishNotification { session: Session { id: &[9; 16], peer: &[9; 16], key: &[9; 16] } },
-        Message::DataReceive { data: &(file.len() as u64).to_be_bytes() },
-        Message::DataReceive { data: file },
-        Message::DataReceive { data: &digest },
-        Message::DataReceive { data: b"more" },
-    ];
-    let mut frames = Vec::new();
-    for message in messages {
-        frames::append(&codec::encode(&message).expect("a message"), &mut frames).expect("a frame");
+        Message::DataReceive { data: &1_u64.to_be_bytes() },
+        Message::DataReceive { data: b"a" },
+    ] {
+        send(&mut connection, message);
     }
-    frames
+    receiver.await_line("the session is established").expect("a session");
+    (receiver, connection)
+}
+
+fn send(connection: &mut TcpStream, message: Message) {
+    let mut frame = Vec::new();
+    frames::append(&codec::encode(&message).expect("a message"), &mut frame).expect("a frame");
+    connection.write_all(&frame).expect("sent");
+}
+
+fn send_digest(connection: &mut TcpStream) {
+    let digest = Fingerprint::read(&b"a"[..]).expect("a byte").digest;
+    send(connection, Message::DataReceive { data: &digest });
 }
 
 #[test]
 fn a_file_that_has_come_is_no_failure_however_the_transfer_ends() {
-    let relay = TcpListener::bind("127.0.0.1:0").expect("a port");
-    let address = relay.local_addr().expect("its address").to_string();
     let copy = folder("only_parting_fails").join("copy");
-    let receiver = Running::start(&mut program(&["peer", "receive", text(&copy), "--relay", &address]));
-    let (mut connection, _) = relay.accept().expect("the receiver's connection");
-    connection.write_all(&too_much(b"one")).expect("sent");
+    let (receiver, mut connection) = receiver_of_a_byte(&copy);
+    send_digest(&mut connection);
+    send(&mut connection, Message::DataReceive { data: b"more" });
     let ended = receiver.end();
     assert_eq!(ended.status, Some(0), "{}", ended.stderr);
     assert!(ended.last_line().contains("is complete, but the sender may not know"), "{}", ended.stderr);
-    assert_eq!(fs::read(&copy).expect("the copy"), b"one");
+    assert_eq!(fs::read(&copy).expect("the copy"), b"a");
+}
+
+/// The signal and the digest come at once, so either may be first.
+#[test]
+fn a_receiver_that_is_interrupted_at_the_end_says_whether_the_file_is_there() {
+    let folder = folder("interrupted_at_the_end");
+    for round in 0..10 {
+        let copy = folder.join(format!("copy{round}"));
+        let (receiver, mut connection) = receiver_of_a_byte(&copy);
+        receiver.signal("STOP");
+        send_digest(&mut connection);
+        receiver.signal("INT");
+        receiver.signal("CONT");
+        let ended = receiver.end();
+        let (status, words) = if copy.exists() { (0, "is complete") } else { (1, "interrupted before the whole") };
+        assert_eq!(ended.status, Some(status), "{}", ended.stderr);
+        assert!(ended.last_line().contains(words), "{}", ended.stderr);
+    }
 }
 
 #[test]
