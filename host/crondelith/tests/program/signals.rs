@@ -137,7 +137,7 @@ fn a_terminal_that_closes_asks_once() {
 fn timeout_asks_once() {
     // It can't end in order, so only a signal taken for a second one would end it.
     let (mut relay, _, _reader) = start_unheard(full_pipe);
-    (0..3).for_each(|_| relay.signal("TERM"));
+    (0..2).for_each(|_| relay.signal("TERM"));
     assert!(!relay.ends_within(WHILE));
 
     let relay = Relay::start(&[]);
@@ -152,6 +152,24 @@ fn timeout_asks_once() {
     assert_eq!(relay.program.end().status, Some(0));
 }
 
+/// From now on it can't write a file beyond so many bytes.
+fn limit_file_size(running: &Running, bytes: u32) {
+    let (limit, id) = (format!("--fsize={bytes}"), running.id().to_string());
+    let limited = Command::new("prlimit").args([&limit, "--pid", &id]).status();
+    assert!(limited.expect("prlimit").success());
+}
+
+#[test]
+fn a_relay_outlives_a_limit_of_its_files_size() {
+    let folder = folder("state_size");
+    let mut relay = Relay::start(&["--state", text(&folder.join("state"))]);
+    limit_file_size(&relay.program, 0);
+    // Its lease is a change, which the relay saves within half a second.
+    let _receiver = relay.receiver(&folder.join("copy"), &[]);
+    relay.program.await_line("File too large").expect("a line about it");
+    assert!(!relay.program.ends_within(WHILE));
+}
+
 #[test]
 fn a_limit_of_a_files_size_is_a_write_that_fails() {
     let relay = Relay::start(&[]);
@@ -159,8 +177,7 @@ fn a_limit_of_a_files_size_is_a_write_that_fails() {
     let (original, copy) = (folder.join("original"), folder.join("copy"));
     write_file(&original, 100_000);
     let (receiver, id) = relay.receiver(&copy, &[]);
-    let limited = Command::new("prlimit").args(["--fsize=10000", "--pid", &receiver.id().to_string()]).status();
-    assert!(limited.expect("prlimit").success());
+    limit_file_size(&receiver, 10_000);
     let sender = Running::start(&mut relay.peer(&["send", &id, text(&original)])).end();
     assert_eq!(sender.status, Some(1), "{}", sender.stderr);
     let ended = receiver.end();
