@@ -9,7 +9,7 @@ use clap::{value_parser, Args, Subcommand};
 use codec::DATA_LIMIT;
 use peer::{
     confirm, receive_contents, send_contents, Error, Fingerprint, Meter, PartFile, Patience, Peer, Progress,
-    RelayAddress, MESSAGE_SIZE,
+    RelayAddress, SourceFile, SystemDisk, MESSAGE_SIZE,
 };
 use server::PARTNERS;
 
@@ -38,7 +38,8 @@ A relay hands on 65,536 bytes a second for a partner whose allowance is used up.
 nothing moves for 60 seconds says so.
 
 The exit status is 0 if the whole file has come, 1 if not, also when interrupted before (Ctrl-C),
-and 2 if the arguments are wrong or FILE is in the way.";
+and 2 if the arguments are wrong or FILE is in the way at the start. A second Ctrl-C a second later
+ends the program at once, and may leave the '.part' file.";
 
 /// Receive or send a file through a relay
 #[derive(Args)]
@@ -87,8 +88,10 @@ struct Options {
         value_parser = value_parser!(u16).range(0..PARTNERS as i64))]
     partner: Option<u16>,
 
-    /// Give up a transfer that stands still for so long [default: never]
-    #[arg(long, global = true, value_name = "SECONDS", value_parser = value_parser!(u32).range(1..))]
+    /// Give up a transfer that stands still for so long; for the sender the
+    /// time counts in which the receiver writes to its disk [default: never]
+    #[arg(long, global = true, verbatim_doc_comment, value_name = "SECONDS",
+        value_parser = value_parser!(u32).range(1..))]
     timeout: Option<u32>,
 
     /// Replace FILE if it exists
@@ -115,26 +118,41 @@ pub fn run(arguments: Arguments) -> Outcome {
 
 fn receive(file: &Path, options: &Options) -> Outcome {
     let port = options.partner_port()?;
-    PartFile::check(file, options.force).map_err(in_the_way)?;
+    PartFile::check(file, options.force).map_err(|error| in_the_way(file, error))?;
     let watch = Watch::start("interrupted before the whole file had come")?;
     let peer = options.connect(port, &watch)?;
-    let (mut peer, kept) = receive_at(peer, file, options).map_err(|failure| watch.explain(failure))?;
-    confirm(&mut peer, &kept)
-        .map_err(|error| Failure::Failed(format!("'{}' is complete, but {error}", file.display())))?;
-    note(&format!("'{}' is complete", file.display()));
-    finish(peer);
+    let received = receive_at(peer, file, options, &watch);
+    let (peer, kept) = received.map_err(|failure| watch.explain(failure))?;
+    part_with(peer, file, &kept, &watch);
     Ok(())
 }
 
 /// Waits for a sender and keeps its file. The sender isn't told yet.
-fn receive_at(mut peer: Peer, file: &Path, options: &Options) -> Result<(Peer, Fingerprint), Failure> {
-    let mut part = PartFile::create(file, options.force).map_err(|error| failed_at(file, error))?;
+fn receive_at(mut peer: Peer, file: &Path, options: &Options, watch: &Watch) -> Result<(Peer, Fingerprint), Failure> {
+    let at_file = |error| failed_at(file, error);
+    let mut part = PartFile::create(file, options.force).map_err(at_file)?;
     print_id(peer.lease().map_err(failed)?)?;
     note("waiting for a sender; the id is its first argument");
     await_session(&mut peer)?;
-    let sent = show(|progress| receive_contents(&mut peer, &mut part, options.patience(), progress))?;
-    let kept = part.keep(&sent).map_err(|error| failed_at(file, error))?;
+    let sent =
+        show(|progress| receive_contents(&mut peer, &mut part, options.patience(), progress)).map_err(at_file)?;
+    let kept = part.keep_on(&SystemDisk, &sent, || watch.interrupted()).map_err(at_file)?;
     Ok((peer, kept))
+}
+
+/// Tells the sender which file is kept, and parts. The file is there, so an error in this is only told.
+fn part_with(mut peer: Peer, file: &Path, kept: &Fingerprint, watch: &Watch) {
+    let complete = format!("'{}' is complete", file.display());
+    match confirm(&mut peer, kept) {
+        Ok(()) => {
+            note(&complete);
+            finish(peer);
+        }
+        Err(error) => {
+            let why = if watch.interrupted() { "interrupted".into() } else { error.to_string() };
+            note(&format!("{complete}, but the sender may not know: {why}"));
+        }
+    }
 }
 
 fn await_session(peer: &mut Peer) -> Outcome {
@@ -154,28 +172,26 @@ fn await_session(peer: &mut Peer) -> Outcome {
 fn send(id: u32, path: &Path, options: &Options) -> Outcome {
     let port = options.partner_port()?;
     let size = options.message_size.map_or(MESSAGE_SIZE, usize::from);
-    let (file, length) = open(path)?;
+    let file = open(path).map_err(|error| failed_at(path, error))?;
+    let length = file.length();
     let watch = Watch::start("interrupted")?;
     let mut peer = options.connect(port, &watch)?;
-    let established = peer.establish(id).map_err(failed);
-    let sent = established
+    let sent = peer
+        .establish(id)
         .and_then(|()| show(|progress| send_contents(&mut peer, file, length, size, options.patience(), progress)));
-    sent.map_err(|failure| watch.explain(failure))?;
+    sent.map_err(|error| watch.explain(failed_at(path, error)))?;
     note("the receiver has confirmed the whole file");
     finish(peer);
     Ok(())
 }
 
-/// A file to send, and its length.
-fn open(path: &Path) -> Result<(File, u64), Failure> {
-    let named = |error| failed_at(path, Error::Read(error));
+/// A file to send.
+fn open(path: &Path) -> Result<SourceFile, Error> {
     // What else a name can stand for has no length, and a pipe could make opening wait.
-    if !path.metadata().map_err(named)?.is_file() {
-        return Err(failed(Error::NotPlain(path.to_owned())));
+    if !path.metadata().map_err(Error::Read)?.is_file() {
+        return Err(Error::NotPlain(path.to_owned()));
     }
-    let file = File::open(path).map_err(named)?;
-    let length = file.metadata().map_err(named)?.len();
-    Ok((file, length))
+    File::open(path).and_then(SourceFile::new).map_err(Error::Read)
 }
 
 impl Options {
@@ -207,12 +223,12 @@ impl Options {
 }
 
 /// Shows how far a transfer in an established session is.
-fn show<T>(transfer: impl FnOnce(&mut dyn FnMut(Progress)) -> Result<T, Error>) -> Result<T, Failure> {
+fn show<T>(transfer: impl FnOnce(&mut dyn FnMut(Progress)) -> Result<T, Error>) -> Result<T, Error> {
     note("the session is established");
     let mut meter = Meter::stderr();
     let outcome = transfer(&mut |progress| meter.update(progress));
     meter.end();
-    outcome.map_err(failed)
+    outcome
 }
 
 /// The id alone on a line of stdout, for a script to read.
@@ -232,12 +248,20 @@ fn failed(error: Error) -> Failure {
 }
 
 fn failed_at(path: &Path, error: Error) -> Failure {
-    Failure::Failed(format!("'{}': {error}", path.display()))
+    Failure::Failed(named(path, &error))
 }
 
-fn in_the_way(error: Error) -> Failure {
+fn in_the_way(path: &Path, error: Error) -> Failure {
     match error {
         Error::Exists(_) => Failure::Usage(format!("{error}; '--force' replaces it")),
-        _ => Failure::Usage(error.to_string()),
+        _ => Failure::Usage(named(path, &error)),
+    }
+}
+
+/// The error, with the file's name if it is about the file.
+fn named(path: &Path, error: &Error) -> String {
+    match error.lacks_name() {
+        true => format!("'{}': {error}", path.display()),
+        false => error.to_string(),
     }
 }

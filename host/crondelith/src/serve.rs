@@ -50,8 +50,8 @@ The relay's clock is the machine's at the start (or the state's, if that is late
 itself; that the machine's time was set meanwhile is a line in the log.
 
 At the end, what waits for allowance is lost; what was accepted has 2 seconds to be written.
-SIGINT (Ctrl-C), SIGTERM and SIGHUP end the relay in order; a second Ctrl-C or SIGTERM ends it at
-once. Under nohup, SIGHUP is ignored.
+SIGINT (Ctrl-C), SIGTERM and SIGHUP end the relay in order; a second Ctrl-C or SIGTERM, a second
+later, ends it at once. Under nohup, SIGHUP is ignored.
 
 The exit status is 0 if the relay has run and ended in order, 1 if it couldn't run or was ended at
 once, and 2 if the arguments are wrong.";

@@ -3,19 +3,25 @@
 
 use std::ffi::c_int;
 use std::sync::atomic::{AtomicBool, Ordering};
+use std::sync::mpsc::{self, Receiver, Sender};
 use std::sync::{Arc, Mutex, MutexGuard, PoisonError};
+use std::time::{Duration, Instant};
 use std::{fs, io, process, thread};
 
 use peer::Closer;
-use signal_hook::consts::{SIGHUP, SIGINT, SIGTERM};
-use signal_hook::{flag, iterator};
+use signal_hook::consts::{SIGHUP, SIGINT, SIGTERM, SIGXFSZ};
+use signal_hook::{flag, iterator, low_level};
 
 use crate::{note, Failure};
 
 /// The status of a program that is interrupted before it is done.
 const INTERRUPTED: c_int = 1;
 
-pub struct Signals(iterator::Signals);
+/// A signal within this time after the first isn't asking again: timeout(1) sends each one twice.
+const AGAIN: Duration = Duration::from_secs(1);
+
+/// Tells of the first signal that asks the program to end.
+pub struct Signals(Receiver<()>);
 
 impl Signals {
     /// From now on the signals end nothing by themselves. What ending needs is made here, since there may be no free
@@ -25,25 +31,35 @@ impl Signals {
     }
 
     fn try_register() -> io::Result<Self> {
+        // Its handler does nothing of use, but with one a write beyond the limit of a file's size fails instead.
+        flag::register(SIGXFSZ, Arc::default())?;
         let hang_up = (!is_ignored(SIGHUP)).then_some(SIGHUP);
-        let asking = [SIGINT, SIGTERM].into_iter().chain(hang_up);
-        let pending = iterator::Signals::new(asking.clone())?;
-        // Only the handlers set it, one after the other: else the first signal could be taken for the second.
-        let asked = Arc::new(AtomicBool::new(false));
-        for signal in asking {
-            // Who asks again doesn't want to wait. SIGHUP isn't asking again: the shell and the system both send it
-            // when a terminal is closed.
-            if signal != SIGHUP {
-                flag::register_conditional_shutdown(signal, INTERRUPTED, Arc::clone(&asked))?;
-            }
-            flag::register(signal, Arc::clone(&asked))?;
-        }
-        Ok(Self(pending))
+        let pending = iterator::Signals::new([SIGINT, SIGTERM].into_iter().chain(hang_up))?;
+        let (first, signals) = mpsc::channel();
+        // A thread that never waits for anything else, so that a second signal works whatever the first one started.
+        thread::Builder::new().spawn(move || watch(pending, &first))?;
+        Ok(Self(signals))
     }
 
     /// Waits for the first signal, which may have come already.
     pub fn wait(&mut self) {
-        self.0.forever().next();
+        // It fails if the watching thread is gone; then it is better to end than to hear no signal.
+        let _ = self.0.recv();
+    }
+}
+
+/// Tells the first signal, and ends the program at once at a second one: who asks again doesn't want to wait. SIGHUP
+/// isn't asking again: the shell and the system both send it when a terminal is closed.
+fn watch(mut pending: iterator::Signals, first: &Sender<()>) {
+    let mut asked = None;
+    for signal in pending.forever() {
+        let since = asked.get_or_insert_with(Instant::now).elapsed();
+        // Nobody waits any more if it isn't the first.
+        let _ = first.send(());
+        if signal != SIGHUP && since >= AGAIN {
+            // Unlike process::exit, it waits for no output.
+            low_level::exit(INTERRUPTED);
+        }
     }
 }
 
@@ -90,9 +106,14 @@ impl Watch {
         *lock(&self.connection) = Some(closer);
     }
 
+    /// Whether a signal has come.
+    pub fn interrupted(&self) -> bool {
+        self.come.load(Ordering::SeqCst)
+    }
+
     /// Why a command failed: after a signal that is the reason, not the connection's end.
     pub fn explain(&self, failure: Failure) -> Failure {
-        match self.come.load(Ordering::SeqCst) {
+        match self.interrupted() {
             true => Failure::Failed(self.why.into()),
             false => failure,
         }

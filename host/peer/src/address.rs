@@ -32,6 +32,7 @@ pub enum AddressError {
     /// Brackets hold an IPv6 address, and nothing but a port follows them.
     WrongBrackets(String),
     WrongPort(String),
+    Url(String),
 }
 
 impl fmt::Display for AddressError {
@@ -41,6 +42,7 @@ impl fmt::Display for AddressError {
             Self::WrongHost(host) => write!(to, "'{host}' is neither a name nor an IP address"),
             Self::WrongBrackets(text) => write!(to, "'{text}' isn't an IPv6 address in brackets, as in '[::1]:7703'"),
             Self::WrongPort(port) => write!(to, "a port is a number from 1 to 65535, not '{port}'"),
+            Self::Url(text) => write!(to, "'{text}' is a URL, not a name or an IP address, as in 'relay.example:7703'"),
         }
     }
 }
@@ -81,6 +83,9 @@ fn split_brackets(text: &str) -> Option<(&str, Option<&str>)> {
 
 /// The name or IPv4 address and the port's text.
 fn split_name(text: &str) -> Result<(&str, Option<&str>), AddressError> {
+    if text.contains("://") {
+        return Err(AddressError::Url(text.into()));
+    }
     let (host, port) = text.split_once(':').map_or((text, None), |(host, port)| (host, Some(port)));
     if port.is_some_and(|port| port.contains(':')) {
         return Err(AddressError::WrongHost(text.into()));

@@ -15,6 +15,10 @@ pub enum Error {
     ClosedBeforeVersion,
     /// The first message is another.
     NoVersion,
+    /// The first message is malformed.
+    MalformedVersion(Box<Error>),
+    /// No version message has come in this time.
+    Silent(Duration),
     /// A version other than 1.0. The peer has answered that it isn't acceptable.
     UnknownVersion {
         major: u16,
@@ -61,6 +65,8 @@ pub enum Error {
     Shorter,
     /// It went on after its announced length.
     Longer,
+    /// It was written to meanwhile.
+    Modified,
     /// The file to receive can't be written.
     Write(io::Error),
     /// What was written of it can't be read again.
@@ -69,6 +75,12 @@ pub enum Error {
     Exists(PathBuf),
     /// Something that isn't a plain file has the name already.
     NotPlain(PathBuf),
+    /// The path ends as only a folder's does.
+    Folder(PathBuf),
+    /// Another file has taken this name of the received one.
+    Replaced(PathBuf),
+    /// The file was to be kept when the program was asked to end.
+    Interrupted,
     Thread(io::Error),
     /// A transfer failed after this many bytes.
     Sending {
@@ -88,12 +100,22 @@ impl Error {
     pub(crate) fn malformed(message: &[u8]) -> Self {
         Self::Malformed { kind: message.first().copied(), length: message.len() }
     }
+
+    /// Whether it is about the file, whose name its text hasn't.
+    pub fn lacks_name(&self) -> bool {
+        match self {
+            Self::Read(_) | Self::Shorter | Self::Longer | Self::Modified => true,
+            Self::Write(_) | Self::ReadBack(_) | Self::Changed => true,
+            Self::Sending { cause, .. } | Self::Receiving { cause, .. } => cause.lacks_name(),
+            _ => false,
+        }
+    }
 }
 
 const NOTHING_LISTENS: &str = "nothing listens there; perhaps the relay isn't running, or has another base port";
 const CLOSED_BEFORE_VERSION: &str = "the relay closed the connection before its version message; perhaps all eight \
                                      connections of the partner are in use, or its allowance is used up";
-const NO_VERSION: &str = "the first message isn't the relay's version; perhaps it is no relay that listens there";
+const NO_RELAY: &str = "perhaps it is no relay that listens there";
 const LEASE_REFUSED: &str = "the relay granted no id; perhaps all sixteen leases of the partner run (each does for an \
                              hour, even if its holder has gone), or this connection holds an id already";
 
@@ -102,10 +124,10 @@ impl fmt::Display for Error {
         match self {
             Self::Unreachable(error) => write_unreachable(error, to),
             Self::ClosedBeforeVersion => write!(to, "{CLOSED_BEFORE_VERSION}"),
-            Self::NoVersion => write!(to, "{NO_VERSION}"),
-            Self::UnknownVersion { major, minor } => {
-                write!(to, "the relay speaks version {major}.{minor} of the protocol, this peer only 1.0")
-            }
+            Self::NoVersion => write!(to, "the first message isn't the relay's version; {NO_RELAY}"),
+            Self::MalformedVersion(cause) => write!(to, "{cause}; {NO_RELAY}"),
+            Self::Silent(time) => write!(to, "no version has come in {} s; {NO_RELAY}", time.as_secs_f32()),
+            Self::UnknownVersion { major, minor } => write_version(*major, *minor, to),
             Self::NoAnswer => write!(to, "the relay hasn't answered in time"),
             Self::Closed | Self::ClosedMidway => write!(to, "the relay stopped or closed the connection"),
             Self::Connection(error) => write!(to, "the connection to the relay failed: {error}"),
@@ -124,14 +146,16 @@ impl fmt::Display for Error {
             Self::Read(error) => write!(to, "the file can't be read: {error}"),
             Self::Shorter => write!(to, "the file is shorter now than when its length was announced"),
             Self::Longer => write!(to, "the file is longer now than when its length was announced"),
+            Self::Modified => write!(to, "the file changed while it was sent"),
             Self::Write(error) => write!(to, "the file can't be written: {error}"),
             Self::ReadBack(error) => write!(to, "the file can't be read back after it was written: {error}"),
             Self::Exists(path) => write!(to, "'{}' exists already", path.display()),
             Self::NotPlain(path) => write!(to, "'{}' isn't a plain file", path.display()),
+            Self::Folder(path) => write!(to, "'{}' names a folder", path.display()),
+            Self::Replaced(path) => write!(to, "another file has replaced the received one at '{}'", path.display()),
+            Self::Interrupted => write!(to, "interrupted before the file had its name"),
             Self::Thread(error) => write!(to, "a thread can't be started: {error}"),
-            Self::Sending { arrived, length, cause } => {
-                write!(to, "{cause}; {} of {} bytes had arrived", grouped(*arrived), grouped(*length))
-            }
+            Self::Sending { arrived, length, cause } => write_moved(cause, *arrived, *length, "arrived", to),
             Self::Receiving { come, length, cause } => write_receiving(*come, *length, cause, to),
         }
     }
@@ -151,9 +175,17 @@ fn write_malformed(kind: Option<u8>, length: usize, to: &mut fmt::Formatter) -> 
     }
 }
 
+fn write_version(major: u16, minor: u16, to: &mut fmt::Formatter) -> fmt::Result {
+    write!(to, "the relay speaks version {major}.{minor} of the protocol, this peer only 1.0")
+}
+
+fn write_moved(cause: &Error, done: u64, length: u64, how: &str, to: &mut fmt::Formatter) -> fmt::Result {
+    write!(to, "{cause}; {} of {} bytes had {how}", grouped(done), grouped(length))
+}
+
 fn write_receiving(come: u64, length: Option<u64>, cause: &Error, to: &mut fmt::Formatter) -> fmt::Result {
     match length {
-        Some(length) => write!(to, "{cause}; {} of {} bytes had come", grouped(come), grouped(length)),
+        Some(length) => write_moved(cause, come, length, "come", to),
         None => write!(to, "{cause}; no byte had come, nor the length"),
     }
 }

@@ -28,6 +28,7 @@ mod progress;
 mod receive;
 mod send;
 mod session;
+mod source_file;
 
 pub use address::{AddressError, RelayAddress};
 pub use connection::Closer;
@@ -41,6 +42,7 @@ pub use peer::Peer;
 pub use progress::{grouped, text, Meter, Progress};
 pub use receive::{confirm, receive_contents, receive_file};
 pub use send::{send_contents, send_file, MESSAGE_SIZE};
+pub use source_file::SourceFile;
 
 /// Bytes of a file's length and of the receiver's counts.
 const COUNT_LENGTH: usize = 8;

@@ -1,9 +1,10 @@
 //! A file that appears under its name only once it is complete.
 
 use std::ffi::{OsStr, OsString};
-use std::fs::{self, File, OpenOptions};
+use std::fs::{self, File, Metadata, OpenOptions};
 use std::io::{self, Seek, Write};
 use std::os::unix::ffi::{OsStrExt, OsStringExt};
+use std::os::unix::fs::MetadataExt;
 use std::path::{Path, PathBuf};
 
 use crate::disk::{Disk, SystemDisk};
@@ -30,7 +31,8 @@ impl PartFile {
         match fs::symlink_metadata(whole) {
             Ok(found) if !found.is_file() => Err(Error::NotPlain(whole.to_owned())),
             Ok(_) if !replace => Err(Error::Exists(whole.to_owned())),
-            // What else is wrong with the name shows when the file is created.
+            // A name that is too long, say: the part's is shorter, so it would show only at the end.
+            Err(error) if error.kind() != io::ErrorKind::NotFound => Err(Error::Write(error)),
             _ => Ok(()),
         }
     }
@@ -49,18 +51,29 @@ impl PartFile {
     /// Gives the file its name if it is the one that was sent. It is read back for that once its bytes are on the disk,
     /// and its name is too when this returns. Gives what was kept.
     pub fn keep(&mut self, sent: &Fingerprint) -> Result<Fingerprint, Error> {
-        self.keep_on(&SystemDisk, sent)
+        self.keep_on(&SystemDisk, sent, || false)
     }
 
-    /// Likewise, by another disk's operations.
-    pub fn keep_on(&mut self, disk: &impl Disk, sent: &Fingerprint) -> Result<Fingerprint, Error> {
+    /// Likewise, by another disk's operations, and unless it is interrupted before the file has its name.
+    pub fn keep_on(
+        &mut self,
+        disk: &impl Disk,
+        sent: &Fingerprint,
+        interrupted: impl FnOnce() -> bool,
+    ) -> Result<Fingerprint, Error> {
         disk.sync(&self.file).map_err(Error::Write)?;
         let written = self.read_back().map_err(Error::ReadBack)?;
         written.check(sent)?;
+        if interrupted() {
+            return Err(Error::Interrupted);
+        }
+        self.check_own(&self.part)?;
         self.name(disk).map_err(|error| match error.kind() {
             io::ErrorKind::AlreadyExists => Error::Exists(self.whole.clone()),
             _ => Error::Write(error),
         })?;
+        // Another file may have taken the part's name just before.
+        self.check_own(&self.whole)?;
         self.kept = true;
         disk.sync(&self.folder).map_err(Error::Write)?;
         Ok(written)
@@ -69,6 +82,16 @@ impl PartFile {
     fn read_back(&mut self) -> io::Result<Fingerprint> {
         self.file.rewind()?;
         Fingerprint::read(&self.file)
+    }
+
+    /// Fails unless the path names the file whose bytes were checked.
+    fn check_own(&self, path: &Path) -> Result<(), Error> {
+        self.is_own(path).then_some(()).ok_or_else(|| Error::Replaced(path.to_owned()))
+    }
+
+    fn is_own(&self, path: &Path) -> bool {
+        let own = self.file.metadata();
+        own.is_ok_and(|own| fs::symlink_metadata(path).is_ok_and(|found| identity(&found) == identity(&own)))
     }
 
     /// Nothing lies between the test whether the name is free and taking it, but for a name that may be replaced.
@@ -82,8 +105,8 @@ impl PartFile {
                 let _ = disk.remove(&self.part);
                 Ok(())
             }
-            Err(error) if error.kind() == io::ErrorKind::AlreadyExists => Err(error),
-            Err(_) => self.name_without_link(disk),
+            Err(error) if lacks_links(&error) => self.name_without_link(disk),
+            Err(error) => Err(error),
         }
     }
 
@@ -109,17 +132,32 @@ impl Write for PartFile {
 
 impl Drop for PartFile {
     fn drop(&mut self) {
-        if !self.kept {
+        // What else has taken the name isn't this one's to remove.
+        if !self.kept && self.is_own(&self.part) {
             // Nobody is left to tell if this fails.
             let _ = fs::remove_file(&self.part);
         }
     }
 }
 
+/// Whether a link failed because the file system, or this file, can't have another.
+fn lacks_links(error: &io::Error) -> bool {
+    use io::ErrorKind::{PermissionDenied, TooManyLinks, Unsupported};
+    matches!(error.kind(), PermissionDenied | TooManyLinks | Unsupported)
+}
+
+/// What tells a file from all others: its device and inode.
+fn identity(metadata: &Metadata) -> (u64, u64) {
+    (metadata.dev(), metadata.ino())
+}
+
 /// The name in the path. A path that ends in a slash or a dot is a folder's.
 fn name_of(whole: &Path) -> Result<&OsStr, Error> {
     let name = whole.file_name().filter(|name| whole.as_os_str().as_bytes().ends_with(name.as_bytes()));
-    name.ok_or_else(|| Error::NotPlain(whole.to_owned()))
+    name.ok_or_else(|| match whole.as_os_str().is_empty() {
+        true => Error::NotPlain(whole.to_owned()),
+        false => Error::Folder(whole.to_owned()),
+    })
 }
 
 /// A name that no other file has: as much of the file's as fits, random digits and ".part".

@@ -26,11 +26,16 @@ pub struct Peer {
 impl Peer {
     /// Connects to a relay's port, which says the partner. A name is resolved, and its addresses are tried in order.
     pub fn connect(address: impl ToSocketAddrs) -> Result<Self, Error> {
+        Self::connect_within(ANSWER_WAIT, address)
+    }
+
+    /// Likewise, with another time for the relay's answers.
+    pub fn connect_within(answer_wait: Duration, address: impl ToSocketAddrs) -> Result<Self, Error> {
         let stream = connect(address).map_err(Error::Unreachable)?;
         // Answers and the end of a session are small and shouldn't wait for more.
         stream.set_nodelay(true).map_err(Error::Connection)?;
         let (incoming, outgoing) = split(stream);
-        let mut peer = Self { incoming, outgoing, lease: None, answer_wait: ANSWER_WAIT };
+        let mut peer = Self { incoming, outgoing, lease: None, answer_wait };
         peer.shake_hands()?;
         Ok(peer)
     }
@@ -39,8 +44,11 @@ impl Peer {
         let version = match self.receive_by(self.answer_deadline()) {
             Ok(Some(Message::ProtocolVersion { major, minor })) => (major, minor),
             Ok(Some(_)) => return Err(Error::NoVersion),
-            Ok(None) => return Err(Error::NoAnswer),
+            Ok(None) => return Err(Error::Silent(self.answer_wait)),
             Err(Error::Closed | Error::ClosedMidway) => return Err(Error::ClosedBeforeVersion),
+            Err(error @ (Error::Frame(_) | Error::Malformed { .. })) => {
+                return Err(Error::MalformedVersion(error.into()));
+            }
             Err(error) => return Err(error),
         };
         let known = version == (1, 0);

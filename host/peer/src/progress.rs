@@ -26,14 +26,21 @@ pub enum Progress {
 
 /// The line: bytes, percent, rate and time left, as far as they are known.
 pub fn text(done: u64, total: u64, rate: Option<f64>) -> String {
-    let percent = (u128::from(done) * 100).checked_div(total.into()).unwrap_or(100);
-    let mut text = format!("{} of {} bytes, {percent} %", grouped(done), grouped(total));
-    let Some(rate) = rate.filter(|rate| *rate > 0.0) else { return text };
-    text += &format!(", {}", rate_text(rate));
-    if done < total {
-        text += &format!(", {} left", clock((total - done) as f64 / rate));
+    let text = ended_text(done, total, rate);
+    match rate.filter(|rate| done < total && *rate > 0.0) {
+        Some(rate) => format!("{text}, {} left", clock((total - done) as f64 / rate)),
+        None => text,
     }
-    text
+}
+
+/// Likewise without the time left, which a transfer that has ended hasn't.
+fn ended_text(done: u64, total: u64, rate: Option<f64>) -> String {
+    let percent = (u128::from(done) * 100).checked_div(total.into()).unwrap_or(100);
+    let text = format!("{} of {} bytes, {percent} %", grouped(done), grouped(total));
+    match rate.filter(|rate| *rate > 0.0) {
+        Some(rate) => format!("{text}, {}", rate_text(rate)),
+        None => text,
+    }
 }
 
 /// A number with a comma after each three digits, counted from the right.
@@ -142,7 +149,7 @@ impl<W: Write> Meter<W> {
     /// Likewise, with the time since the start.
     pub fn end_at(&mut self, now: Duration) {
         if let Some((done, total)) = self.last.take() {
-            self.show(&text(done, total, rate(now, done)));
+            self.show(&ended_text(done, total, rate(now, done)));
         }
         if mem::take(&mut self.within_line) {
             let _ = writeln!(self.to);

@@ -76,7 +76,10 @@ impl Receipt {
         loop {
             match peer.receive_until(stall.deadline())? {
                 Some(Message::DataReceive { data }) => {
-                    stall.end();
+                    // Empty data moves nothing.
+                    if !data.is_empty() {
+                        stall.end();
+                    }
                     if let Some(sent) = self.take(data, writer)? {
                         writer.flush().map_err(Error::Write)?;
                         return Ok(sent);

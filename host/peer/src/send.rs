@@ -287,7 +287,9 @@ impl<R: Read> Source<R> {
     /// As many bytes, or fewer at the end of the file.
     fn read(&mut self, size: u64) -> Result<Vec<u8>, Error> {
         let mut bytes = Vec::new();
-        self.reader.by_ref().take(size).read_to_end(&mut bytes).map_err(Error::Read)?;
+        let read = self.reader.by_ref().take(size).read_to_end(&mut bytes);
+        // A reader may have an error of this kind itself.
+        read.map_err(|error| error.downcast().unwrap_or_else(Error::Read))?;
         Ok(bytes)
     }
 }

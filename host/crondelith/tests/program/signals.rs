@@ -1,11 +1,15 @@
 //! SIGINT, SIGTERM and SIGHUP.
 
 use std::net::{TcpListener, TcpStream};
+use std::process::Command;
 use std::time::Duration;
 
 use crate::support::{
     files, folder, full_pipe, program, start_unheard, text, write_file, Ended, Relay, Running, WHILE,
 };
+
+/// After so long a second signal ends the program at once.
+const AGAIN: Duration = Duration::from_millis(1_100);
 
 const SIGNALS: [&str; 3] = ["INT", "TERM", "HUP"];
 
@@ -113,7 +117,7 @@ fn a_second_signal_ends_the_program_at_once() {
         // It waits for somebody to take its first line, so it can't end in order.
         let (mut relay, _, _reader) = start_unheard(full_pipe);
         relay.signal(signals[0]);
-        assert!(!relay.ends_within(WHILE), "{signals:?}");
+        assert!(!relay.ends_within(AGAIN), "{signals:?}");
         relay.signal(signals[1]);
         assert_eq!(relay.end_within(Duration::from_secs(1)).status, Some(1), "{signals:?}");
     }
@@ -123,8 +127,64 @@ fn a_second_signal_ends_the_program_at_once() {
 fn a_terminal_that_closes_asks_once() {
     let (mut relay, _, _reader) = start_unheard(full_pipe);
     relay.signal("HUP");
+    assert!(!relay.ends_within(AGAIN));
     relay.signal("HUP");
     assert!(!relay.ends_within(WHILE));
+}
+
+/// It sends each signal to the program and to its group.
+#[test]
+fn timeout_asks_once() {
+    // It can't end in order, so only a signal taken for a second one would end it.
+    let (mut relay, _, _reader) = start_unheard(full_pipe);
+    (0..2).for_each(|_| relay.signal("TERM"));
+    assert!(!relay.ends_within(WHILE));
+
+    let relay = Relay::start(&[]);
+    let folder = folder("timeout");
+    let (receiver, _) = relay.receiver(&folder.join("copy"), &[]);
+    for _ in 0..2 {
+        receiver.signal("TERM");
+        relay.program.signal("TERM");
+    }
+    assert_eq!(receiver.end().status, Some(1));
+    assert_eq!(files(&folder), 0);
+    assert_eq!(relay.program.end().status, Some(0));
+}
+
+/// From now on it can't write a file beyond so many bytes.
+fn limit_file_size(running: &Running, bytes: u32) {
+    let (limit, id) = (format!("--fsize={bytes}"), running.id().to_string());
+    let limited = Command::new("prlimit").args([&limit, "--pid", &id]).status();
+    assert!(limited.expect("prlimit").success());
+}
+
+#[test]
+fn a_relay_outlives_a_limit_of_its_files_size() {
+    let folder = folder("state_size");
+    let mut relay = Relay::start(&["--state", text(&folder.join("state"))]);
+    limit_file_size(&relay.program, 0);
+    // Its lease is a change, which the relay saves within half a second.
+    let _receiver = relay.receiver(&folder.join("copy"), &[]);
+    relay.program.await_line("File too large").expect("a line about it");
+    assert!(!relay.program.ends_within(WHILE));
+}
+
+#[test]
+fn a_limit_of_a_files_size_is_a_write_that_fails() {
+    let relay = Relay::start(&[]);
+    let folder = folder("file_size");
+    let (original, copy) = (folder.join("original"), folder.join("copy"));
+    write_file(&original, 100_000);
+    let (receiver, id) = relay.receiver(&copy, &[]);
+    limit_file_size(&receiver, 10_000);
+    let sender = Running::start(&mut relay.peer(&["send", &id, text(&original)])).end();
+    assert_eq!(sender.status, Some(1), "{}", sender.stderr);
+    let ended = receiver.end();
+    assert_eq!(ended.status, Some(1), "{}", ended.stderr);
+    assert!(ended.last_line().contains(text(&copy)), "{}", ended.stderr);
+    assert!(ended.last_line().contains("File too large"), "{}", ended.stderr);
+    assert_eq!(files(&folder), 1, "the original alone");
 }
 
 #[test]

@@ -66,3 +66,10 @@ fn wrong_brackets() {
         check_wrong(text, &format!("'{text}' isn't an IPv6 address in brackets"));
     }
 }
+
+#[test]
+fn a_url() {
+    for text in ["http://relay.example", "http://relay.example:7703/", "svsc://[::1]:7703"] {
+        check_wrong(text, &format!("'{text}' is a URL"));
+    }
+}

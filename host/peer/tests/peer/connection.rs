@@ -78,13 +78,30 @@ fn another_first_message() {
 
 #[test]
 fn malformed_bytes() {
-    assert_words(connect_error(|mut connection| connection.send_raw(b"HTTP/1.1")), &["malformed", "type 84"]);
-    assert_words(connect_error(|mut connection| connection.send_raw(&[0, 0])), &["malformed", "length 0"]);
-    assert_words(connect_error(|mut connection| connection.send_raw(&[0, 1, 1])), &["malformed", "empty"]);
-    assert_words(
-        connect_error(|mut connection| connection.send_raw(&[0, 3, 1, 3, 2])),
-        &["malformed", "type 3, 2 bytes"],
-    );
+    let cases = [
+        (&b"HTTP/1.1"[..], "type 84"),
+        (b"SSH-2.0-", "type 72"),
+        (&[0, 0], "length 0"),
+        (&[0, 1, 1], "empty"),
+        (&[0, 3, 1, 3, 2], "type 3, 2 bytes"),
+    ];
+    for (bytes, words) in cases {
+        let error = connect_error(move |mut connection| connection.send_raw(bytes));
+        assert_words(error, &["malformed", words, "perhaps it is no relay"]);
+    }
+}
+
+#[test]
+fn no_version_in_time() {
+    for bytes in [&[][..], &[0, 9, 1]] {
+        let (address, relay) = scripted(move |mut connection| {
+            connection.send_raw(bytes);
+            connection.drain();
+        });
+        let error = Peer::connect_within(Duration::from_millis(500), address).err().expect("no handshake");
+        assert_words(error, &["has come in 0.5 s", "perhaps it is no relay"]);
+        relay.join().expect("the relay");
+    }
 }
 
 #[test]

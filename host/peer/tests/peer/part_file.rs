@@ -100,13 +100,20 @@ fn only_a_plain_file_is_replaced() {
 }
 
 #[test]
-fn a_path_without_a_name_is_no_plain_file() {
+fn a_path_without_a_name_is_a_folders() {
     let (folder, _) = folder();
-    for path in ["none/", "none/.", "..", "none/..", ""] {
-        let path = if path.is_empty() { PathBuf::new() } else { folder.path().join(path) };
-        assert!(matches!(PartFile::check(&path, true), Err(Error::NotPlain(_))), "{path:?}");
-        assert!(matches!(PartFile::create(&path, true), Err(Error::NotPlain(_))), "{path:?}");
+    for path in ["none/", "none/.", "..", "none/.."].map(|path| folder.path().join(path)) {
+        assert_words(PartFile::check(&path, true).expect_err("no name"), &["names a folder"]);
+        assert!(matches!(PartFile::create(&path, true), Err(Error::Folder(_))), "{path:?}");
     }
+    assert!(matches!(PartFile::check(Path::new(""), true), Err(Error::NotPlain(_))));
+}
+
+#[test]
+fn a_name_that_no_file_can_have_is_an_error_at_once() {
+    let (folder, _) = folder();
+    let long = folder.path().join("x".repeat(256));
+    assert_words(PartFile::check(&long, true).expect_err("too long"), &["can't be written", "too long"]);
 }
 
 #[test]
@@ -134,17 +141,93 @@ fn the_kept_file_has_the_permissions_of_any_other() {
     assert_eq!(kept, other);
 }
 
+/// Something else at a path.
+fn replace(path: &Path, by_link: bool) {
+    fs::remove_file(path).expect("removed");
+    match by_link {
+        true => symlink("elsewhere", path).expect("a link"),
+        false => fs::write(path, "another").expect("written"),
+    }
+}
+
+#[test]
+fn what_has_replaced_the_part_gets_no_name() {
+    for (may_replace, by_link) in [(false, false), (false, true), (true, false), (true, true)] {
+        let (folder, whole) = folder();
+        let mut own = part(&whole, may_replace, b"own");
+        let [other] = names(&folder).try_into().expect("one file");
+        replace(&folder.path().join(&other), by_link);
+        let error = own.keep(&fingerprint(b"own")).expect_err("not kept");
+        assert_words(error, &["another file has replaced the received one", ".part'"]);
+        drop(own);
+        assert_eq!(names(&folder), [other], "neither named nor removed");
+    }
+}
+
+/// A disk on which another file takes the part's name just before the part gets its own.
+struct Racing;
+
+impl Disk for Racing {
+    fn sync(&self, file: &File) -> io::Result<()> {
+        SystemDisk.sync(file)
+    }
+
+    fn link(&self, from: &Path, to: &Path) -> io::Result<()> {
+        replace(from, false);
+        SystemDisk.link(from, to)
+    }
+
+    fn create_new(&self, path: &Path) -> io::Result<()> {
+        SystemDisk.create_new(path)
+    }
+
+    fn rename(&self, from: &Path, to: &Path) -> io::Result<()> {
+        replace(from, false);
+        SystemDisk.rename(from, to)
+    }
+
+    fn remove(&self, path: &Path) -> io::Result<()> {
+        SystemDisk.remove(path)
+    }
+}
+
+#[test]
+fn another_file_that_gets_the_name_is_an_error() {
+    for may_replace in [false, true] {
+        let (_folder, whole) = folder();
+        let mut own = part(&whole, may_replace, b"own");
+        let outcome = own.keep_on(&Racing, &fingerprint(b"own"), || false);
+        assert!(matches!(outcome, Err(Error::Replaced(path)) if path == whole));
+    }
+}
+
+#[test]
+fn an_interrupted_file_gets_no_name() {
+    let (folder, whole) = folder();
+    let mut own = part(&whole, true, b"own");
+    assert!(matches!(own.keep_on(&SystemDisk, &fingerprint(b"own"), || true), Err(Error::Interrupted)));
+    drop(own);
+    assert_eq!(names(&folder), [""; 0]);
+}
+
 /// Notes what is done on the disk, and fails at the steps that it is told. If "bytes" is among them, it changes one.
 struct Noted<'a> {
     steps: RefCell<Vec<&'static str>>,
     fails: &'a [&'static str],
+    /// The error's number.
+    errno: i32,
 }
+
+const EPERM: i32 = 1;
+const EIO: i32 = 5;
+const EMLINK: i32 = 31;
+const EOPNOTSUPP: i32 = 95;
 
 impl Noted<'_> {
     fn note(&self, step: &'static str, act: impl FnOnce() -> io::Result<()>) -> io::Result<()> {
         self.steps.borrow_mut().push(step);
         match self.fails.contains(&step) {
-            true => Err(io::ErrorKind::PermissionDenied.into()),
+            true => Err(io::Error::from_raw_os_error(self.errno)),
             false => act(),
         }
     }
@@ -176,15 +259,23 @@ impl Disk for Noted<'_> {
     }
 }
 
-/// Keeps a file where these steps fail. Gives the outcome and the steps, and what has the name then.
-fn kept(replace: bool, old: Option<&str>, fails: &[&'static str]) -> (bool, Vec<&'static str>, Option<String>) {
+/// What came of keeping a file: the outcome, the steps, and what has the name then.
+type Kept = (bool, Vec<&'static str>, Option<String>);
+
+/// Keeps a file where these steps fail.
+fn kept(replace: bool, old: Option<&str>, fails: &[&'static str]) -> Kept {
+    kept_with(EPERM, replace, old, fails)
+}
+
+/// Likewise, with this error.
+fn kept_with(errno: i32, replace: bool, old: Option<&str>, fails: &[&'static str]) -> Kept {
     let (folder, whole) = folder();
     let mut new = part(&whole, replace, b"new");
     if let Some(old) = old {
         fs::write(&whole, old).expect("written");
     }
-    let disk = Noted { steps: RefCell::default(), fails };
-    let outcome = new.keep_on(&disk, &fingerprint(b"new"));
+    let disk = Noted { steps: RefCell::default(), fails, errno };
+    let outcome = new.keep_on(&disk, &fingerprint(b"new"), || false);
     drop(new);
     let content = fs::read_to_string(&whole).ok();
     assert!(names(&folder).iter().all(|name| name == "file"), "{:?}", names(&folder));
@@ -204,7 +295,9 @@ fn the_bytes_are_safe_before_the_name_and_the_name_before_the_end() {
 #[test]
 fn without_hard_links_the_name_is_reserved_first() {
     let steps = ["sync file", "link", "create", "rename", "sync folder"];
-    assert_eq!(kept(false, None, &["link"]), (true, steps.to_vec(), text("new")));
+    for errno in [EPERM, EOPNOTSUPP, EMLINK] {
+        assert_eq!(kept_with(errno, false, None, &["link"]), (true, steps.to_vec(), text("new")), "{errno}");
+    }
     assert_eq!(kept(false, Some("old"), &["link"]), (false, steps[..3].to_vec(), text("old")));
     let undone = vec!["sync file", "link", "create", "rename", "remove"];
     assert_eq!(kept(false, None, &["link", "rename"]), (false, undone, None));
@@ -212,6 +305,7 @@ fn without_hard_links_the_name_is_reserved_first() {
 
 #[test]
 fn a_step_that_fails_is_told() {
+    assert_eq!(kept_with(EIO, false, None, &["link"]), (false, vec!["sync file", "link"], None));
     assert_eq!(kept(false, None, &["sync file"]), (false, vec!["sync file"], None));
     assert_eq!(kept(true, Some("old"), &["rename"]), (false, vec!["sync file", "rename"], text("old")));
     let steps = vec!["sync file", "rename", "sync folder"];

@@ -171,6 +171,18 @@ fn the_receiver_ends_at_its_limit() {
     assert_stalled(outcome, "0 of 3 bytes had come");
 }
 
+#[test]
+fn empty_data_moves_nothing() {
+    let outcome = receive(LIMITED, |connection, _| {
+        announce(connection, 3);
+        let end = Instant::now() + LATE;
+        while Instant::now() < end && connection.try_send(Message::DataReceive { data: b"" }) {
+            sleep(NOTICE / 4);
+        }
+    });
+    assert_stalled(outcome, "0 of 3 bytes had come");
+}
+
 /// What the relay doesn't read fills the buffers.
 #[test]
 fn a_stall_is_told_and_ends_while_a_write_waits() {

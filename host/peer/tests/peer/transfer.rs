@@ -1,6 +1,8 @@
 //! Files through a relay: whole ones, and sides that vanish or break the format.
 
+use std::fs::{self, File, OpenOptions};
 use std::io::{self, Write};
+use std::os::unix::fs::FileExt;
 use std::sync::atomic::{AtomicBool, Ordering};
 use std::sync::mpsc::{self, RecvTimeoutError};
 use std::sync::Arc;
@@ -8,7 +10,8 @@ use std::thread;
 use std::time::Duration;
 
 use codec::{Message, DATA_LIMIT};
-use peer::{receive_file, send_contents, send_file, Patience, Peer, Progress, MESSAGE_SIZE};
+use peer::{receive_file, send_contents, send_file, Patience, Peer, Progress, SourceFile, MESSAGE_SIZE};
+use tempfile::TempDir;
 
 use crate::support::{
     announce, assert_words, confirmation, expect_whole, fill, fingerprint, forwarding, holder, receive_at, scripted,
@@ -285,6 +288,30 @@ fn a_file_of_another_length_than_announced() {
         assert_words(error.expect_err("not sent"), &[words]);
         assert_eq!(kinds.iter().count(), 0);
     }
+}
+
+/// Neither its last bytes nor its digest are sent.
+#[test]
+fn a_file_that_changes_while_it_is_sent() {
+    let folder = TempDir::new().expect("a folder");
+    let path = folder.path().join("file");
+    let length = 20 * MESSAGE_SIZE as u64;
+    fs::write(&path, contents(length as usize)).expect("written");
+    let file = SourceFile::new(File::open(&path).expect("the file")).expect("its version");
+    assert_eq!(file.length(), length);
+    let error = send_at(file, length, move |connection| {
+        connection.expect(Message::DataSend { data: &length.to_be_bytes() });
+        // The sender can't have read all of it, since nothing is counted yet.
+        let file = OpenOptions::new().write(true).open(&path).expect("the file");
+        file.write_all_at(b"other bytes", 0).expect("written");
+        let mut come = 0;
+        while let Some(Message::DataSend { data }) = connection.next() {
+            come += data.len() as u64;
+            connection.try_send(Message::DataReceive { data: &come.to_be_bytes() });
+        }
+        assert!(come < length, "all of it was sent");
+    });
+    assert_words(error.expect_err("not sent"), &["the file changed while it was sent"]);
 }
 
 #[test]
