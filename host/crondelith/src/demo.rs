@@ -98,10 +98,11 @@ fn scene(file: &[u8], with_flood: bool) -> Result<Scene, String> {
 fn transfer(address: SocketAddr, file: &[u8]) -> Result<(Duration, Vec<u8>), String> {
     let mut holder = Peer::connect(address).map_err(|error| error.to_string())?;
     let id = holder.lease().map_err(|error| error.to_string())?;
-    let receiver = thread::spawn(move || {
+    let receive = move || {
         let mut received = Vec::new();
         receive_file(&mut holder, &mut received, |_| ()).map(|_| received)
-    });
+    };
+    let receiver = thread::Builder::new().spawn(receive).map_err(|error| error.to_string())?;
     let mut sender = Peer::connect(address).map_err(|error| error.to_string())?;
     let start = Instant::now();
     send_file(&mut sender, id, file, file.len() as u64, |_| ()).map_err(|error| error.to_string())?;

@@ -39,7 +39,7 @@ kind and connection on they are summed up, every 5 seconds. At most some 128 KiB
 connection that reads slowly: beyond that its senders wait too. A connection is closed that takes
 less than 16 KiB of what waits for it in 30 seconds, doesn't answer the relay's version in 10, or
 leaves a frame unfinished for 30; one whose peer has vanished, after one to five minutes. The kernel
-tells of what is taken by some 64 KiB, so a peer should read 4 KB a second or more.
+tells of what is taken in lumps, so a peer should read 8 KB a second or more.
 
 With '--state' the three tables are in FILE: they are loaded at the start, saved twice a second when
 they have changed, and at the end. Leases and allowances go on; connections are gone. What a killed

@@ -8,10 +8,8 @@ use std::time::Instant;
 use mio::net::TcpStream;
 
 use crate::input::Input;
+use crate::message;
 use crate::refusal::Refusal;
-
-/// Type of SessionEnd, the one message that costs nothing: it is offered at once, whoever waits.
-pub const SESSION_END: u8 = 9;
 
 pub struct Connection {
     pub stream: TcpStream,
@@ -99,10 +97,11 @@ impl Connection {
         self.is_taken_from() || self.phase == Phase::Closing
     }
 
-    /// Whether a SessionEnd can be taken from it.
+    /// Whether a SessionEnd can be taken from it: the one message that costs nothing, so it is offered at once, whoever
+    /// waits.
     pub fn has_session_end(&self) -> bool {
         let first = self.input.message().and_then(|message| message.first());
-        first == Some(&SESSION_END) && self.is_taken_from()
+        first == Some(&message::SESSION_END) && self.is_taken_from()
     }
 }
 
@@ -133,9 +132,7 @@ impl End {
     pub fn is_closed_by_engine(&self) -> bool {
         matches!(self, Self::OtherVersion)
     }
-}
 
-impl End {
     /// What it is summed up as in the log.
     pub fn kind(&self) -> &'static str {
         match self {

@@ -8,7 +8,7 @@ use rustix::process::{getrlimit, setrlimit, Resource, Rlimit};
 const OTHERS: u64 = 32;
 
 /// Makes sure that the process may have so many sockets; raises its limit where that is allowed.
-pub fn provide(sockets: usize) -> io::Result<()> {
+pub fn ensure(sockets: usize) -> io::Result<()> {
     let needed = sockets as u64 + OTHERS;
     let Rlimit { current, maximum } = getrlimit(Resource::Nofile);
     if current.is_none_or(|current| current >= needed) {

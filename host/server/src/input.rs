@@ -4,14 +4,14 @@ use std::io::{self, Read};
 
 use frames::{Error, HEADER, MESSAGE_LIMIT};
 
-use crate::spare::Spare;
+use crate::buffer_pool::BufferPool;
 
 /// Bytes that are read at a time: a frame of the largest size, in whole pages.
 pub const CAPACITY: usize = (HEADER + MESSAGE_LIMIT).next_multiple_of(4096);
 
 /// What a read found.
 #[derive(Debug, PartialEq, Eq)]
-pub enum Found {
+pub enum ReadOutcome {
     /// All that has come is read.
     All,
     /// The buffer is full: there may be more.
@@ -35,19 +35,19 @@ pub struct Input {
 
 impl Input {
     /// Reads once. There must be room, as there is while no whole frame waits.
-    pub fn read_from(&mut self, stream: &mut impl Read, spare: &mut Spare) -> io::Result<Found> {
+    pub fn read_from(&mut self, stream: &mut impl Read, spare: &mut BufferPool) -> io::Result<ReadOutcome> {
         self.make_room(spare);
         let room = &mut self.buffer[self.end..];
         let length = room.len();
         let found = match stream.read(room) {
-            Ok(0) => Ok(Found::End),
+            Ok(0) => Ok(ReadOutcome::End),
             Ok(count) => {
                 self.end += count;
-                self.look();
-                Ok(if count == length { Found::Part } else { Found::All })
+                self.parse_first();
+                Ok(if count == length { ReadOutcome::Part } else { ReadOutcome::All })
             }
-            Err(error) if error.kind() == io::ErrorKind::WouldBlock => Ok(Found::Nothing),
-            Err(error) if error.kind() == io::ErrorKind::Interrupted => Ok(Found::Part),
+            Err(error) if error.kind() == io::ErrorKind::WouldBlock => Ok(ReadOutcome::Nothing),
+            Err(error) if error.kind() == io::ErrorKind::Interrupted => Ok(ReadOutcome::Part),
             Err(error) => Err(error),
         };
         self.release(spare);
@@ -64,7 +64,7 @@ impl Input {
     pub fn take(&mut self) {
         if let Some(length) = self.first {
             self.start += HEADER + length;
-            self.look();
+            self.parse_first();
         }
     }
 
@@ -74,7 +74,7 @@ impl Input {
     }
 
     /// Finds out whether there is a whole frame.
-    fn look(&mut self) {
+    fn parse_first(&mut self) {
         let bytes = &self.buffer[self.start..self.end];
         let length = frames::message_length(bytes).ok().flatten();
         self.first = length.filter(|length| bytes.len() >= HEADER + length);
@@ -86,20 +86,20 @@ impl Input {
     }
 
     /// Gives the buffer back if no byte waits.
-    pub fn release(&mut self, spare: &mut Spare) {
+    pub fn release(&mut self, spare: &mut BufferPool) {
         if self.is_empty() && !self.buffer.is_empty() {
             spare.give(std::mem::take(self).buffer);
         }
     }
 
     /// Gives the buffer back with all that waits in it.
-    pub fn discard(&mut self, spare: &mut Spare) {
+    pub fn discard(&mut self, spare: &mut BufferPool) {
         (self.start, self.first) = (self.end, None);
         self.release(spare);
     }
 
     /// What is left of the last read moves to the front, so that there is room for a whole frame.
-    fn make_room(&mut self, spare: &mut Spare) {
+    fn make_room(&mut self, spare: &mut BufferPool) {
         if self.buffer.is_empty() {
             self.buffer = spare.take();
         }

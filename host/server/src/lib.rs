@@ -4,6 +4,7 @@
 //! One thread does all of it (`event_loop`): bytes come in, whole messages are offered to the engine, and what it sends goes
 //! out. A thread each for the log and the state file keep a slow terminal or disk from holding it up.
 
+mod buffer_pool;
 mod clock;
 mod connection;
 mod descriptors;
@@ -11,6 +12,7 @@ mod event_loop;
 mod input;
 mod limits;
 mod log;
+mod message;
 mod output;
 mod port;
 mod random;
@@ -18,7 +20,6 @@ mod refusal;
 mod relay;
 mod saver;
 mod server;
-mod spare;
 mod state_file;
 mod statistics;
 mod turns;

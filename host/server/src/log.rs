@@ -91,7 +91,7 @@ impl Log {
         counts.retain(|_, count| count.only_counted > 0);
         for (event, count) in &mut counts {
             let more = std::mem::take(&mut count.only_counted);
-            state.add(self.line(*event, None, &format_args!("{more} more times '{}'", event.kind)));
+            state.add(self.line(*event, None, &format_args!("'{}' {more} times more", event.kind)));
         }
         state.counts = counts;
     }

@@ -10,7 +10,7 @@ use std::io::{self, Write};
 
 use frames::{HEADER, MESSAGE_LIMIT};
 
-use crate::spare::Spare;
+use crate::buffer_pool::BufferPool;
 
 /// Bytes, from which on those who fill the output wait.
 pub const BOUND: usize = 65_536;
@@ -21,6 +21,7 @@ pub const CAPACITY: usize = BOUND + FRONT + HEADER + MESSAGE_LIMIT;
 /// Where the first frame of an empty output begins: its message's data, after the header and a type byte, is then at a
 /// multiple of 16, which suits the engine's copy of long data.
 const FRONT: usize = 16 - HEADER - 1;
+/// Frames that wait to be written, in their order.
 #[derive(Default)]
 pub struct Output {
     /// Empty while nothing waits.
@@ -48,13 +49,13 @@ impl Output {
     }
 
     /// Adds the message's frame.
-    pub fn append(&mut self, message: &[u8], spare: &mut Spare) {
+    pub fn append(&mut self, message: &[u8], spare: &mut BufferPool) {
         self.room(message.len(), spare).copy_from_slice(message);
         self.commit(message.len());
     }
 
     /// Room for a message of this length. What is written there counts when it is committed.
-    pub fn room(&mut self, length: usize, spare: &mut Spare) -> &mut [u8] {
+    pub fn room(&mut self, length: usize, spare: &mut BufferPool) -> &mut [u8] {
         self.make_room(HEADER + length, spare);
         &mut self.buffer[self.end + HEADER..][..length]
     }
@@ -69,7 +70,7 @@ impl Output {
     }
 
     /// Writes as much as the stream takes. Gives how much that was.
-    pub fn write_to(&mut self, stream: &mut impl Write, spare: &mut Spare) -> io::Result<usize> {
+    pub fn write_to(&mut self, stream: &mut impl Write, spare: &mut BufferPool) -> io::Result<usize> {
         let before = self.len();
         while !self.is_empty() {
             match stream.write(&self.buffer[self.start..self.end]) {
@@ -86,19 +87,19 @@ impl Output {
     }
 
     /// Forgets what waits.
-    pub fn clear(&mut self, spare: &mut Spare) {
+    pub fn clear(&mut self, spare: &mut BufferPool) {
         self.start = self.end;
         self.release(spare);
     }
 
     /// Gives the buffer back if nothing waits.
-    fn release(&mut self, spare: &mut Spare) {
+    fn release(&mut self, spare: &mut BufferPool) {
         if self.is_empty() && !self.buffer.is_empty() {
             spare.give(std::mem::take(self).buffer);
         }
     }
 
-    fn make_room(&mut self, length: usize, spare: &mut Spare) {
+    fn make_room(&mut self, length: usize, spare: &mut BufferPool) {
         if self.is_empty() {
             if self.buffer.is_empty() {
                 self.buffer = spare.take();
@@ -130,7 +131,7 @@ mod tests {
     use std::io::{self, Write};
 
     use super::{Output, CAPACITY};
-    use crate::spare::Spare;
+    use crate::buffer_pool::BufferPool;
 
     /// Takes so many bytes at a time, and then no more for once.
     struct Stream {
@@ -157,7 +158,7 @@ mod tests {
 
     #[test]
     fn what_is_added_is_written_in_order_whatever_is_taken_at_a_time() {
-        let mut spare = Spare::new(CAPACITY);
+        let mut spare = BufferPool::new(CAPACITY);
         let (mut output, mut expected) = (Output::default(), Vec::new());
         let mut stream = Stream { taken: Vec::new(), at_a_time: 50_000, full: false };
         for round in 0..60_u8 {

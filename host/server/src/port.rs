@@ -44,7 +44,7 @@ pub fn bind_free() -> io::Result<Listeners> {
 /// Listens on each partner's addresses, if there are descriptors for all that will connect.
 fn bind_at(places: impl Fn(usize) -> Vec<SocketAddr>) -> io::Result<Listeners> {
     let places: Vec<_> = (0..PARTNERS).map(places).collect();
-    descriptors::provide(places.iter().flatten().count() + PARTNERS * (CONNECTIONS_EACH + WAITING_LIMIT))?;
+    descriptors::ensure(places.iter().flatten().count() + PARTNERS * (CONNECTIONS_EACH + WAITING_LIMIT))?;
     let of_partner =
         |(partner, places): (usize, &Vec<SocketAddr>)| places.iter().map(|place| named(partner, *place)).collect();
     places.iter().enumerate().map(of_partner).collect::<io::Result<_>>().map(Listeners)

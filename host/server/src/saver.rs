@@ -1,10 +1,10 @@
 //! Saves the tables on a thread of its own: a slow disk mustn't hold up the relay.
 
+use std::io;
 use std::sync::atomic::{AtomicBool, Ordering};
 use std::sync::mpsc::{self, Receiver, Sender};
 use std::sync::Arc;
 use std::thread::{self, JoinHandle};
-use std::{io, mem};
 
 use crate::log::{Event, Log, Place};
 use crate::relay::Tables;
@@ -55,7 +55,7 @@ impl Saver {
 fn run(file: &StateFile, tables: &Receiver<Tables>, failed: &AtomicBool, log: &Log) {
     while let Ok(mut latest) = tables.recv() {
         while let Ok(later) = tables.try_recv() {
-            drop(mem::replace(&mut latest, later));
+            latest = later;
         }
         if let Err(error) = file.save(&latest) {
             failed.store(true, Ordering::Relaxed);

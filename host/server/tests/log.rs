@@ -80,13 +80,13 @@ fn a_flood_is_summed_up_however_its_texts_differ() {
     );
     assert_eq!(texts[10], "partner 3: turned away");
     kept.log.sum_up();
-    assert_eq!(kept.texts(), ["partner 2, connection 17: 990 more times 'refused'"]);
+    assert_eq!(kept.texts(), ["partner 2, connection 17: 'refused' 990 times more"]);
     // The first goes on and is still only counted; the second is new.
     kept.log.record(REFUSED, None, "again");
     kept.log.record(TURNED_AWAY, None, "again");
     assert_eq!(kept.texts(), ["partner 3: again"]);
     kept.log.sum_up();
-    assert_eq!(kept.texts(), ["partner 2, connection 17: 1 more times 'refused'"]);
+    assert_eq!(kept.texts(), ["partner 2, connection 17: 'refused' 1 times more"]);
     kept.log.sum_up();
     assert_eq!(kept.texts(), [""; 0]);
     kept.log.record(REFUSED, None, "once more");
@@ -125,7 +125,7 @@ fn a_flood_is_summed_up_while_the_log_goes_on() {
     });
     (0..20).for_each(|_| log.record(REFUSED, None, "again"));
     let line = || lines.recv_timeout(Duration::from_secs(10)).expect("a sum every five seconds");
-    while !line().ends_with("10 more times 'refused'") {}
+    while !line().ends_with("'refused' 10 times more") {}
     log.end();
     writer.join().expect("the writer ends");
 }

@@ -8,7 +8,7 @@ use super::EventLoop;
 use crate::connection::Connection;
 use crate::log::{Event, Place};
 use crate::port::Candidate;
-use crate::{CONNECTIONS_EACH, PARTNERS};
+use crate::CONNECTIONS_EACH;
 
 /// A peer that acknowledges nothing for so long has vanished. It is long, since a peer that reads slowly may do so too.
 const ACKNOWLEDGED_IN: Duration = Duration::from_secs(300);
@@ -73,7 +73,7 @@ impl EventLoop {
 
     /// Turns those away who have waited for a number long enough.
     pub(super) fn turn_away(&mut self) {
-        for partner in 0..PARTNERS.min(self.partners.len()) {
+        for partner in 0..self.partners.len() {
             let now = self.now;
             let port = &mut self.partners[partner].port;
             port.rests_until = port.rests_until.filter(|time| *time > now);

@@ -96,12 +96,11 @@ impl EventLoop {
 
     fn compare_clocks(&mut self) {
         let drift = self.relay.clock().drift();
-        if drift.abs_diff(self.told_drift) > DRIFT {
+        if drift.abs_diff(self.logged_drift) > DRIFT {
             let event = Event { kind: "clock", place: Place::Relay };
-            let text =
-                format_args!("the machine's time was set: it is {drift} s from the relay's, which goes on as before");
+            let text = format_args!("the machine's time is {drift} s from the relay's, which goes on as before");
             self.log.record(event, None, text);
-            self.told_drift = drift;
+            self.logged_drift = drift;
         }
     }
 }

@@ -3,10 +3,7 @@
 use engine::relay::{Answer, NOBODY};
 
 use super::EventLoop;
-use crate::connection::SESSION_END;
-
-/// Type of a request to establish a session.
-const ESTABLISH: u8 = 6;
+use crate::message::{ESTABLISH_REQUEST, SESSION_END};
 
 impl EventLoop {
     /// What is replied stands in the reply buffer.
@@ -45,7 +42,7 @@ impl EventLoop {
     pub(super) fn follow_session(&mut self, caller: usize, kind: Option<u8>, answer: Answer) {
         let Some(destination) = destination(answer) else { return };
         match kind {
-            Some(ESTABLISH) => self.pair(caller, destination),
+            Some(ESTABLISH_REQUEST) => self.pair(caller, destination),
             Some(SESSION_END) => self.part(caller),
             _ => {}
         }
@@ -70,8 +67,8 @@ impl EventLoop {
     /// The output that an accepted call has left full, after as much as possible of it is written.
     pub(super) fn full_output(&mut self, caller: usize, answer: Answer) -> Option<usize> {
         let replied = (answer.reply > 0).then_some(caller);
-        let filled = [destination(answer), replied].into_iter().flatten();
-        filled.into_iter().find(|number| self.stays_full(*number))
+        let mut filled = [destination(answer), replied].into_iter().flatten();
+        filled.find(|number| self.stays_full(*number))
     }
 
     fn stays_full(&mut self, number: usize) -> bool {

@@ -23,6 +23,7 @@ use frames::MESSAGE_LIMIT;
 use mio::event::Event;
 use mio::{Events, Interest, Poll, Token};
 
+use crate::buffer_pool::BufferPool;
 use crate::connection::Connection;
 use crate::limits::Limits;
 use crate::log::{self, Log, Place};
@@ -32,7 +33,6 @@ use crate::random::Random;
 use crate::relay::Relay;
 use crate::saver::Saver;
 use crate::server::Command;
-use crate::spare::Spare;
 use crate::statistics::Statistics;
 use crate::turns::Turns;
 use crate::{input, output, CONNECTIONS_EACH, PARTNERS};
@@ -56,8 +56,8 @@ pub struct EventLoop {
     connections: Vec<Option<Connection>>,
     /// Apart from the connections: a message of one is written into the output of another.
     outputs: Vec<Output>,
-    spare_inputs: Spare,
-    spare_outputs: Spare,
+    spare_inputs: BufferPool,
+    spare_outputs: BufferPool,
     /// Lent for what is replied.
     reply: [u8; BUFFER],
     /// Lent for what is relayed where the output isn't known beforehand.
@@ -80,7 +80,7 @@ pub struct EventLoop {
     /// When the state and the clock are looked at.
     tick: Instant,
     /// The drift of the clock that the log has.
-    told_drift: u64,
+    logged_drift: u64,
     /// The relay ends, at this time even if something is still to be written.
     stops: Option<Instant>,
 }
@@ -118,8 +118,8 @@ impl EventLoop {
             commands,
             connections: (0..CONNECTIONS).map(|_| None).collect(),
             outputs: (0..CONNECTIONS).map(|_| Output::default()).collect(),
-            spare_inputs: Spare::new(input::CAPACITY),
-            spare_outputs: Spare::new(output::CAPACITY),
+            spare_inputs: BufferPool::new(input::CAPACITY),
+            spare_outputs: BufferPool::new(output::CAPACITY),
             reply: [0; BUFFER],
             scratch: vec![0; MESSAGE_LIMIT].into(),
             partners: listeners.into_ports().into_iter().map(partner).collect(),
@@ -131,7 +131,7 @@ impl EventLoop {
             earliest: now,
             retry: None,
             tick: now,
-            told_drift: 0,
+            logged_drift: 0,
             stops: None,
         };
         new.register_listeners()?;
@@ -149,11 +149,13 @@ impl EventLoop {
     /// Runs until it is stopped. Gives what each partner got.
     pub fn run(mut self) -> io::Result<Vec<Statistics>> {
         let mut events = Events::with_capacity(EVENTS);
-        while !self.is_over() {
-            self.turn(&mut events)?;
+        let mut outcome = Ok(());
+        while outcome.is_ok() && !self.is_over() {
+            outcome = self.turn(&mut events);
         }
+        // Whatever happened, the state is saved.
         self.finish();
-        Ok(self.statistics())
+        outcome.map(|()| self.statistics())
     }
 
     fn turn(&mut self, events: &mut Events) -> io::Result<()> {
@@ -164,8 +166,8 @@ impl EventLoop {
         }
         self.now = Instant::now();
         self.relay.clock().refresh();
-        events.iter().for_each(|event| self.note(event));
-        self.obey();
+        events.iter().for_each(|event| self.handle_event(event));
+        self.handle_commands();
         self.accept();
         self.read();
         self.expire();
@@ -178,25 +180,27 @@ impl EventLoop {
     fn time_left(&self) -> Duration {
         let is_busy =
             self.freed || !self.ready.is_empty() || self.partners.iter().any(|partner| partner.turns.next().is_some());
-        match is_busy {
-            true => Duration::ZERO,
-            // The poll counts whole milliseconds and leaves out the rest: then it would come back too early, over and over.
-            false => self.earliest.saturating_duration_since(Instant::now()) + Duration::from_micros(999),
+        if is_busy {
+            return Duration::ZERO;
         }
+        // The poll counts whole milliseconds and leaves out the rest: it would come back too early, over and over.
+        self.earliest.saturating_duration_since(Instant::now()) + Duration::from_micros(999)
     }
 
-    fn note(&mut self, event: &Event) {
+    fn handle_event(&mut self, event: &Event) {
         match event.token() {
             WAKER => {}
-            Token(number) if number < FIRST_LISTENER => self.note_connection(number, event),
+            Token(number) if number < FIRST_LISTENER => self.handle_connection_event(number, event),
             Token(listener) => {
-                let flags = self.partners.iter_mut().flat_map(|partner| &mut partner.port.ready);
-                flags.skip(listener - FIRST_LISTENER).take(1).for_each(|ready| *ready = true);
+                let mut flags = self.partners.iter_mut().flat_map(|partner| &mut partner.port.ready);
+                if let Some(ready) = flags.nth(listener - FIRST_LISTENER) {
+                    *ready = true;
+                }
             }
         }
     }
 
-    pub fn statistics(&self) -> Vec<Statistics> {
+    fn statistics(&self) -> Vec<Statistics> {
         self.partners.iter().map(|partner| partner.statistics).collect()
     }
 

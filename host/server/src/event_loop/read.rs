@@ -4,10 +4,10 @@ use mio::event::Event;
 
 use super::EventLoop;
 use crate::connection::{Connection, End, Phase};
-use crate::input::Found;
+use crate::input::ReadOutcome;
 
 impl EventLoop {
-    pub(super) fn note_connection(&mut self, number: usize, event: &Event) {
+    pub(super) fn handle_connection_event(&mut self, number: usize, event: &Event) {
         let Some(connection) = &mut self.connections[number] else { return };
         // A peer that has reset takes and sends nothing any more, so what it has sent needn't be served to its end.
         if event.is_error() || event.is_read_closed() && event.is_write_closed() {
@@ -44,11 +44,11 @@ impl EventLoop {
             return;
         }
         match connection.input.read_from(&mut connection.stream, &mut self.spare_inputs) {
-            Ok(Found::Part) => {}
+            Ok(ReadOutcome::Part) => {}
             // The end of the stream is told once: it must be read to it.
-            Ok(Found::All) => connection.readable = connection.read_closed,
-            Ok(Found::Nothing) => connection.readable = false,
-            Ok(Found::End) => (connection.readable, connection.ended) = (false, true),
+            Ok(ReadOutcome::All) => connection.readable = connection.read_closed,
+            Ok(ReadOutcome::Nothing) => connection.readable = false,
+            Ok(ReadOutcome::End) => (connection.readable, connection.ended) = (false, true),
             Err(error) => return self.end(number, End::Failed(error)),
         }
         self.go_on(number);
@@ -89,7 +89,9 @@ impl EventLoop {
         if connection.phase == Phase::Open {
             let begun = !connection.input.is_empty();
             connection.due = connection.due.or(Some(deadline)).filter(|_| begun);
-            self.earliest = self.earliest.min(connection.due.unwrap_or(self.earliest));
+            if let Some(due) = connection.due {
+                self.wake_by(due);
+            }
         }
     }
 }

@@ -6,6 +6,7 @@ use engine::relay::{Answer, BUFFER, RANDOM};
 
 use super::EventLoop;
 use crate::connection::{End, Hold, Phase};
+use crate::message::{DATA_SEND, ESTABLISH_REQUEST, LEASE_REQUEST};
 use crate::refusal::{Consequence, Refusal};
 
 /// What the partners' messages may cost together in a turn: so many that a turn's own cost hardly counts, and so few that
@@ -13,12 +14,10 @@ use crate::refusal::{Consequence, Refusal};
 const TURN: usize = 131_072;
 /// What a message costs beside its length.
 const FIXED_COST: usize = 32;
-/// The messages that random bytes matter to: a lease request, and a request to establish a session.
-const NEEDS_RANDOM: [u8; 2] = [2, 6];
+/// The messages that random bytes matter to.
+const NEEDS_RANDOM: [u8; 2] = [LEASE_REQUEST, ESTABLISH_REQUEST];
 /// Lent to the others.
 const NOT_RANDOM: [u8; RANDOM] = [0; RANDOM];
-/// Type of a message whose data goes to the peer in session.
-const DATA: u8 = 11;
 /// A dropped message costs its sender no allowance. So the next one is taken after a pause of a millisecond for each KiB
 /// begun of it: a flood of them mustn't keep the relay busy.
 const PAUSE: Duration = Duration::from_millis(1);
@@ -97,7 +96,6 @@ impl EventLoop {
                 let Some(connection) = &mut self.connections[number] else { return };
                 (connection.phase, connection.due, connection.waits) = (Phase::Greeted, Some(due), false);
                 self.wake_by(due);
-                self.partner_of(number).turns.leave(number);
                 self.count_done(number, 0);
                 self.deliver_reply(number, answer);
             }
@@ -118,7 +116,7 @@ impl EventLoop {
             None => &NOT_RANDOM,
         };
         // Data is written where it is to go.
-        let output = connection.paired.filter(|_| kind == Some(DATA));
+        let output = connection.paired.filter(|_| kind == Some(DATA_SEND));
         let room = length.max(BUFFER);
         let relay = match output {
             Some(paired) => self.outputs[paired].room(room, &mut self.spare_outputs),
@@ -136,7 +134,7 @@ impl EventLoop {
         self.count_done(number, length);
         self.deliver_reply(number, answer);
         self.deliver_relay(answer, output);
-        if kind != Some(DATA) {
+        if kind != Some(DATA_SEND) {
             self.follow(number, kind, answer);
         }
         self.keep_bound(number, answer);
@@ -174,7 +172,7 @@ impl EventLoop {
                 self.partner_of(number).statistics.dropped += 1;
                 self.log_connection(number, "dropped", refusal);
                 self.connections[number].iter_mut().for_each(|connection| connection.input.take());
-                let pause = PAUSE * (1 + length / PAUSE_BYTES) as u32;
+                let pause = PAUSE * length.div_ceil(PAUSE_BYTES).max(1) as u32;
                 self.hold(number, Hold::Pause(self.now + pause));
             }
             Consequence::Close => self.end(number, End::Refused(refusal)),

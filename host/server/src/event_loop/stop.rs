@@ -8,7 +8,7 @@ use crate::statistics::Statistics;
 
 impl EventLoop {
     /// Does what it is told from outside.
-    pub(super) fn obey(&mut self) {
+    pub(super) fn handle_commands(&mut self) {
         while let Ok(command) = self.commands.try_recv() {
             match command {
                 // Who asked may have gone.
@@ -20,8 +20,8 @@ impl EventLoop {
 
     /// Takes nothing more and ends every connection. What is still to be written has a moment.
     fn stop(&mut self) {
-        let deadline = self.now + self.limits.last_words;
-        self.stops = Some(deadline);
+        // Asking twice doesn't prolong it.
+        let deadline = *self.stops.get_or_insert(self.now + self.limits.last_words);
         self.wake_by(deadline);
         for partner in &mut self.partners {
             partner.port.shut();

@@ -169,7 +169,7 @@ fn a_waiting_partner_holds_up_no_neighbour() {
         caller.send(Message::DataSend { data: b"quiet" });
         assert_eq!(holder.receive(), encode(&Message::DataReceive { data: b"quiet" }));
     }
-    assert!(start.elapsed() < Duration::from_secs(2), "{:?}", start.elapsed());
+    assert!(start.elapsed() < Duration::from_secs(5), "{:?}", start.elapsed());
 }
 
 #[test]

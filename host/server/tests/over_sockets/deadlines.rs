@@ -10,7 +10,7 @@ use server::{Limits, SystemClock};
 use crate::clocks::Standing;
 use crate::support::{Relay, Socket};
 
-const SHORT: Duration = Duration::from_millis(400);
+const SHORT: Duration = Duration::from_millis(600);
 
 /// A relay whose deadlines for a version answer and a frame are short.
 fn impatient() -> Relay {

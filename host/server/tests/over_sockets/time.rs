@@ -33,11 +33,11 @@ fn the_time_may_be_set_back_or_forward_and_nobody_waits_for_it() {
         assert!(peer.lease() < 1 << 26);
         assert!(start.elapsed() < Duration::from_secs(3), "it waited {:?}", start.elapsed());
         let (least, most) = (set.abs_diff(START) - 1, set.abs_diff(START));
-        relay.await_any(&[least, most].map(|drift| format!("the machine's time was set: it is {drift} s from the")));
+        relay.await_any(&[least, most].map(|drift| format!("the machine's time is {drift} s from the")));
         // It is looked at twice a second, and told once.
         std::thread::sleep(Duration::from_millis(1_200));
         let (_, log) = relay.stop();
-        assert_eq!(log.iter().filter(|line| line.contains("the machine's time was set")).count(), 1, "{log:?}");
+        assert_eq!(log.iter().filter(|line| line.contains("the machine's time is")).count(), 1, "{log:?}");
     }
 }
 

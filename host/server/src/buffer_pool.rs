@@ -5,12 +5,12 @@
 const LIMIT: usize = 4;
 
 /// Buffers of one length.
-pub struct Spare {
+pub struct BufferPool {
     length: usize,
     buffers: Vec<Box<[u8]>>,
 }
 
-impl Spare {
+impl BufferPool {
     pub fn new(length: usize) -> Self {
         Self { length, buffers: Vec::new() }
     }
