@@ -87,6 +87,15 @@ impl Connection {
         }
     }
 
+    /// Its first message has been offered, and is over.
+    pub fn take(&mut self) {
+        self.input.take();
+        self.waits = false;
+        if self.phase == Phase::Open {
+            self.due = None;
+        }
+    }
+
     /// Whether messages are taken from it, as far as it is concerned.
     pub fn is_taken_from(&self) -> bool {
         self.hold.is_none() && matches!(self.phase, Phase::Greeted | Phase::Open)

@@ -6,8 +6,8 @@ use frames::{Error, HEADER, MESSAGE_LIMIT};
 
 use crate::buffer_pool::BufferPool;
 
-/// Bytes that are read at a time: a frame of the largest size, in whole pages.
-pub const CAPACITY: usize = (HEADER + MESSAGE_LIMIT).next_multiple_of(4096);
+/// Bytes that are read at a time: two frames of the largest size, in whole pages.
+pub const CAPACITY: usize = (2 * (HEADER + MESSAGE_LIMIT)).next_multiple_of(4096);
 
 /// What a read found.
 #[derive(Debug, PartialEq, Eq)]

@@ -13,9 +13,9 @@ use frames::{HEADER, MESSAGE_LIMIT};
 use crate::buffer_pool::BufferPool;
 
 /// Bytes, from which on those who fill the output wait.
-pub const BOUND: usize = 65_536;
+pub const BOUND: usize = 98_304;
 /// More can't wait, unless connections add to the output and leave, over and over.
-const EXCESS: usize = 2 * CAPACITY;
+const EXCESS: usize = 2 * BOUND + MESSAGE_LIMIT;
 /// Room for the bound and a frame of the largest size. More is needed only if several fill an output at once.
 pub const CAPACITY: usize = BOUND + FRONT + HEADER + MESSAGE_LIMIT;
 /// Where the first frame of an empty output begins: its message's data, after the header and a type byte, is then at a
@@ -170,7 +170,7 @@ mod tests {
                 output.room(message.len(), &mut spare).copy_from_slice(&message);
                 output.commit(message.len());
             }
-            assert_eq!(output.is_full(), output.len() >= 65_536);
+            assert_eq!(output.is_full(), output.len() >= 98_304);
             output.write_to(&mut stream, &mut spare).expect("a write");
         }
         while !output.is_empty() {

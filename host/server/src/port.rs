@@ -10,10 +10,9 @@ use socket2::{Domain, Protocol, SockRef, Socket, TcpKeepalive, Type};
 
 use crate::{descriptors, CONNECTIONS_EACH, PARTNERS};
 
-/// The kernel's buffers of a connection; it books twice as much. Larger ones would let a peer send in advance what its
-/// partner then pays for long after the peer has gone, and hide how fast a peer reads.
-const RECEIVE_BUFFER: usize = 131_072;
-const SEND_BUFFER: usize = 65_536;
+/// The kernel's buffers of a connection, each; it books twice as much. Larger ones would let a peer send in advance what
+/// its partner then pays for long after the peer has gone, and hide how fast a peer reads.
+const KERNEL_BUFFER: usize = 131_072;
 /// Connections that the kernel keeps for a listener.
 const BACKLOG: i32 = 128;
 /// Connections of a partner that may wait for a number.
@@ -63,8 +62,8 @@ fn listen(place: SocketAddr) -> io::Result<std::net::TcpListener> {
         socket.set_only_v6(true)?;
     }
     // Connections inherit these, which must be set before the handshake agrees on a window.
-    socket.set_recv_buffer_size(RECEIVE_BUFFER)?;
-    socket.set_send_buffer_size(SEND_BUFFER)?;
+    socket.set_recv_buffer_size(KERNEL_BUFFER)?;
+    socket.set_send_buffer_size(KERNEL_BUFFER)?;
     socket.set_nonblocking(true)?;
     socket.bind(&place.into())?;
     socket.listen(BACKLOG)?;
@@ -169,12 +168,34 @@ fn is_of_the_peer(error: &io::Error) -> bool {
 
 #[cfg(test)]
 mod tests {
-    use std::net::TcpStream;
+    use std::net::{Ipv4Addr, TcpStream};
     use std::time::{Duration, Instant};
 
     use socket2::SockRef;
 
-    use super::{bind_free, PROBE_AFTER, PROBE_INTERVAL, RECEIVE_BUFFER, SEND_BUFFER};
+    use super::{bind_free, listen, Port, KERNEL_BUFFER, PROBE_AFTER, PROBE_INTERVAL};
+
+    /// Accepts so many connections of a port.
+    fn accept(port: &mut Port, count: usize) {
+        while port.candidates.len() < count {
+            port.ready.fill(true);
+            port.accept(Instant::now(), Duration::from_secs(60)).expect("a connection");
+        }
+    }
+
+    #[test]
+    fn no_address_of_a_partner_starves_another() {
+        let loopback = || listen((Ipv4Addr::LOCALHOST, 0).into()).expect("a free port");
+        let listeners = [loopback(), loopback()];
+        let places = listeners.each_ref().map(|listener| listener.local_addr().expect("an address"));
+        let mut port = Port::new(listeners.into());
+        let _peers =
+            [places[0], places[0], places[0], places[1]].map(|place| TcpStream::connect(place).expect("it listens"));
+        accept(&mut port, 2);
+        let taken: Vec<_> =
+            port.candidates.iter().map(|candidate| candidate.stream.local_addr().expect("one")).collect();
+        assert!(places.iter().all(|place| taken.contains(place)), "{taken:?}");
+    }
 
     /// A peer that vanishes without a word can't be had on one machine: these are what ends it.
     #[test]
@@ -182,17 +203,13 @@ mod tests {
         let listeners = bind_free().expect("free ports");
         let _peer = TcpStream::connect(listeners.addresses().expect("addresses")[0]).expect("it listens");
         let mut port = listeners.into_ports().remove(0);
-        let limit = Duration::from_secs(60);
-        while port.candidates.is_empty() {
-            port.ready[0] = true;
-            port.accept(Instant::now(), limit).expect("a connection");
-        }
+        accept(&mut port, 1);
         let socket = SockRef::from(&port.candidates[0].stream);
         assert!(socket.keepalive().expect("an option") && socket.nodelay().expect("an option"));
         assert_eq!(socket.keepalive_time().expect("an option"), PROBE_AFTER);
         assert_eq!(socket.keepalive_interval().expect("an option"), PROBE_INTERVAL);
-        assert_eq!(socket.tcp_user_timeout().expect("an option"), Some(limit));
+        assert_eq!(socket.tcp_user_timeout().expect("an option"), Some(Duration::from_secs(60)));
         let sizes = [socket.recv_buffer_size(), socket.send_buffer_size()].map(|size| size.expect("an option"));
-        assert_eq!(sizes, [2 * RECEIVE_BUFFER, 2 * SEND_BUFFER], "as the kernel books them");
+        assert_eq!(sizes, [2 * KERNEL_BUFFER; 2], "as the kernel books them");
     }
 }

@@ -5,13 +5,14 @@ use std::time::Duration;
 use engine::relay::{Answer, BUFFER, RANDOM};
 
 use super::EventLoop;
-use crate::connection::{End, Hold, Phase};
+use crate::connection::{Connection, End, Hold, Phase};
 use crate::message::{DATA_SEND, ESTABLISH_REQUEST, LEASE_REQUEST};
 use crate::refusal::{Consequence, Refusal};
 
-/// What the partners' messages may cost together in a turn: so many that a turn's own cost hardly counts, and so few that
-/// a neighbour's message doesn't wait long for the next.
+/// What a partner's messages may cost in a turn if no other has any: so much that the turn's own cost hardly counts.
 const TURN: usize = 131_072;
+/// What they may cost together if several partners have any: so little that a neighbour doesn't wait long for the next.
+const SHARED_TURN: usize = 32_768;
 /// What a message costs beside its length.
 const FIXED_COST: usize = 32;
 /// The messages that random bytes matter to.
@@ -31,8 +32,9 @@ impl EventLoop {
         if busy == 0 {
             return;
         }
+        let share = if busy == 1 { TURN } else { SHARED_TURN / busy };
         for place in 0..count {
-            self.serve_partner((self.first_partner + place) % count, TURN / busy);
+            self.serve_partner((self.first_partner + place) % count, share);
             self.write_filled();
         }
         self.first_partner = (self.first_partner + 1) % count;
@@ -126,11 +128,7 @@ impl EventLoop {
             Ok(answer) => answer,
             Err(refusal) => return self.refused(number, length, refusal),
         };
-        connection.input.take();
-        connection.waits = false;
-        if connection.phase == Phase::Open {
-            connection.due = None;
-        }
+        connection.take();
         self.count_done(number, length);
         self.deliver_reply(number, answer);
         self.deliver_relay(answer, output);
@@ -171,7 +169,7 @@ impl EventLoop {
             Consequence::Drop => {
                 self.partner_of(number).statistics.dropped += 1;
                 self.log_connection(number, "dropped", refusal);
-                self.connections[number].iter_mut().for_each(|connection| connection.input.take());
+                self.connections[number].iter_mut().for_each(Connection::take);
                 let pause = PAUSE * length.div_ceil(PAUSE_BYTES).max(1) as u32;
                 self.hold(number, Hold::Pause(self.now + pause));
             }

@@ -95,3 +95,15 @@ fn each_frame_has_a_time_of_its_own() {
     peer.send_bytes(&[1, 13]);
     assert!(peer.lease() < 1 << 26);
 }
+
+#[test]
+fn a_session_end_leaves_no_deadline_behind() {
+    let relay = impatient();
+    let mut peer = relay.peer(0);
+    // Its SessionEnd takes most of a frame's time, and the next frame another.
+    for piece in [&[0, 2][..], &[1, 9, 0, 2], &[1, 13]] {
+        peer.send_bytes(piece);
+        thread::sleep(SHORT * 3 / 4);
+    }
+    assert!(peer.lease() < 1 << 26);
+}

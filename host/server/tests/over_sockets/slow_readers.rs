@@ -15,7 +15,7 @@ use crate::support::{assert_stops, Relay, Socket};
 /// More bytes than the relay and the kernel hold for a peer that reads nothing.
 const MOST: usize = 1 << 24;
 /// What the buffers of the kernel and of the relay hold together, on either side of it: 128 KiB of each socket, an input
-/// of 64 KiB, an output of 64 KiB and a message. The kernel counts more than the bytes.
+/// of 128 KiB, an output of 96 KiB and a message. The kernel counts more than the bytes.
 const BUFFERS: usize = 1 << 20;
 
 /// What may come between the test and the relay.
