@@ -103,7 +103,7 @@ impl Connection {
 
     /// Whether its stream is read: also for nobody, when it is closing.
     pub fn is_read(&self) -> bool {
-        self.is_taken_from() || self.phase == Phase::Closing
+        self.is_taken_from() || self.phase == Phase::Closing && !self.ended
     }
 
     /// Whether a SessionEnd can be taken from it: the one message that costs nothing, so it is offered at once, whoever

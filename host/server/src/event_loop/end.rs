@@ -42,6 +42,9 @@ impl EventLoop {
             return self.free(number);
         }
         connection.due = Some(due);
+        // What it has sent and nobody has read.
+        connection.readable = true;
+        connection.input.discard(&mut self.spare_inputs);
         self.wake_by(due);
         self.ready.push(number);
     }
@@ -50,7 +53,13 @@ impl EventLoop {
     pub(super) fn discard(&mut self, number: usize) {
         let Some(connection) = &mut self.connections[number] else { return };
         match connection.stream.read(&mut self.scratch) {
-            Ok(0) => self.free(number),
+            Ok(0) => {
+                connection.ended = true;
+                // Else it is freed when all is written.
+                if self.outputs[number].is_empty() {
+                    self.free(number);
+                }
+            }
             Ok(_) => self.ready.push(number),
             Err(error) if error.kind() == io::ErrorKind::WouldBlock => connection.readable = false,
             Err(error) if error.kind() == io::ErrorKind::Interrupted => self.ready.push(number),

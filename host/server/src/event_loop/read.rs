@@ -36,12 +36,12 @@ impl EventLoop {
 
     fn read_connection(&mut self, number: usize) {
         let Some(connection) = &mut self.connections[number] else { return };
+        let has_message = connection.input.message().is_some();
+        if !connection.readable || has_message || !connection.is_read() {
+            return;
+        }
         if connection.phase == Phase::Closing {
             return self.discard(number);
-        }
-        let has_message = connection.input.message().is_some();
-        if !connection.readable || has_message || !connection.is_taken_from() {
-            return;
         }
         match connection.input.read_from(&mut connection.stream, &mut self.spare_inputs) {
             Ok(ReadOutcome::Part) => {}

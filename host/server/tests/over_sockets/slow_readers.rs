@@ -1,7 +1,7 @@
 //! A peer that reads nothing, or next to nothing: its senders wait, others don't, and the relay's memory stays bounded.
 
 use std::io::{Read, Write};
-use std::net::TcpStream;
+use std::net::{Shutdown, TcpStream};
 use std::thread;
 use std::time::{Duration, Instant};
 
@@ -37,6 +37,14 @@ fn longest_send() -> Vec<u8> {
     let mut frame = Vec::new();
     frames::append(&[&[11], &[7; 65_533][..]].concat(), &mut frame).expect("a frame");
     frame
+}
+
+/// Bytes of the messages that make a session: two version answers, a lease request and one to establish.
+const NO_DATA: u64 = 2 * 2 + 2 + 5;
+
+/// Bytes of the frames of so many bytes of the longest sends, which have a header each.
+fn framed(bytes: u64) -> u64 {
+    bytes + 3 * bytes.div_ceil(65_534)
 }
 
 /// Sends the frame over and over until nothing is taken for a while. Gives how many bytes were.
@@ -145,9 +153,7 @@ fn what_waits_is_still_written_when_the_relay_ends() {
     holder.stream.read_to_end(&mut rest).expect("the rest");
     drop(holder);
     let time = stopping.join().expect("the relay's end");
-    // Two version answers, a lease request and one to establish are no data; each send has a header of 3 more bytes.
-    let data = accepted - 2 * 2 - 2 - 5;
-    assert_eq!(rest.len() as u64, data + 3 * data.div_ceil(65_534));
+    assert_eq!(rest.len() as u64, framed(accepted - NO_DATA));
     assert!(
         time >= Duration::from_millis(500) && time < Duration::from_secs(2),
         "it ends with the last byte: {time:?}"
@@ -219,6 +225,28 @@ fn what_waits_arrives_though_its_receiver_has_sent_what_nobody_reads() {
     holder.stream.read_to_end(&mut rest).expect("the rest, and no reset");
     assert!(rest.len() > 2 * 65_536, "{}", rest.len());
     stopping.join().expect("the relay's end");
+}
+
+#[test]
+fn who_has_ended_its_side_still_gets_what_waits() {
+    let relay = Relay::with_clock(JumpingClock::default());
+    let (mut caller, mut holder) = session(&relay);
+    let frame = longest_send();
+    let taken = fill(&mut caller, &frame);
+    let accepted = relay.server.statistics()[0].bytes - NO_DATA;
+    holder.stream.shutdown(Shutdown::Write).expect("its end");
+    relay.await_line("partner 0, connection 1: closed, the peer left");
+    // In pieces: the relay hears of room for some of it, several times.
+    let mut piece = vec![0; 20_000];
+    let mut come = 0;
+    loop {
+        match holder.stream.read(&mut piece).expect("bytes or the end") {
+            0 => break,
+            count => come += count as u64,
+        }
+        thread::sleep(Duration::from_millis(20));
+    }
+    assert_eq!(come, framed(accepted), "of {taken} bytes");
 }
 
 #[test]
