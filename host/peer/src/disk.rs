@@ -45,3 +45,18 @@ impl Disk for SystemDisk {
         fs::remove_file(path)
     }
 }
+
+#[cfg(test)]
+mod tests {
+    use std::fs::File;
+
+    use super::{Disk, SystemDisk};
+
+    /// What can't be synced tells whether the system was asked to.
+    #[test]
+    fn the_system_is_asked_to_sync() {
+        let device = File::open("/dev/null").expect("a device");
+        assert!(SystemDisk.sync(&device).is_err());
+        assert!(SystemDisk.sync(&tempfile::tempfile().expect("a file")).is_ok());
+    }
+}

@@ -43,8 +43,7 @@ impl PartFile {
         let part = folder.join(name);
         // Opened now, so that a folder that can't be synced shows before the file comes.
         let folder = File::open(folder).map_err(Error::Write)?;
-        // A new one, and not what a link of that name points to.
-        let file = OpenOptions::new().read(true).write(true).create_new(true).open(&part).map_err(Error::Write)?;
+        let file = create_part(&part).map_err(Error::Write)?;
         Ok(Self { file, folder, part, whole: whole.to_owned(), replace, kept: false })
     }
 
@@ -120,6 +119,11 @@ impl PartFile {
     }
 }
 
+/// A new file, and not what has the name already or what a link of that name points to.
+fn create_part(path: &Path) -> io::Result<File> {
+    OpenOptions::new().read(true).write(true).create_new(true).open(path)
+}
+
 impl Write for PartFile {
     fn write(&mut self, bytes: &[u8]) -> io::Result<usize> {
         self.file.write(bytes)
@@ -175,4 +179,26 @@ fn start_of(name: &[u8], limit: usize) -> &[u8] {
     let starts_character = |place: &usize| name.get(*place).is_none_or(|byte| byte & 0xc0 != 0x80);
     let end = (0..=limit.min(name.len())).rev().find(starts_character).unwrap_or(0);
     &name[..end]
+}
+
+#[cfg(test)]
+mod tests {
+    use std::fs;
+    use std::io::ErrorKind;
+    use std::os::unix::fs::symlink;
+
+    use super::create_part;
+
+    #[test]
+    fn a_part_is_a_new_file_and_follows_no_link() {
+        let folder = tempfile::tempdir().expect("a folder");
+        let [there, link, target] = ["there", "link", "target"].map(|name| folder.path().join(name));
+        fs::write(&there, "kept").expect("a file");
+        symlink(&target, &link).expect("a link");
+        for taken in [&there, &link] {
+            assert_eq!(create_part(taken).expect_err("the name is taken").kind(), ErrorKind::AlreadyExists);
+        }
+        assert!(fs::read(&there).expect("the file") == b"kept" && !target.exists());
+        create_part(&target).expect("a free name");
+    }
 }
