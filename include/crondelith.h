@@ -55,6 +55,40 @@ crondelith_answer crondelith_close(uint8_t *connections, size_t connections_leng
                                    uint8_t *allowances, size_t allowances_length, uint64_t now, uint64_t connection, uint8_t *relay,
                                    size_t relay_length);
 
+/* Why is a call turned away, or what decides it? These answer for the call that the function without 'explain_' in its name would be
+ * asked for, from the same tables and with buffers of such lengths; they only read. Link libcrondelith_reasons.a.
+ *
+ * check:     the number that the call would be answered with.
+ * request:   of a call that would be done, 1 for a lease request (type 2), 2 for an establish request (type 6); else 0.
+ * condition: of a lease 0 if it is accepted, or the first condition that fails: 1 the connection holds a live lease, 2 every row of
+ *            the partner is live, 3 a live row of the partner has the cookie, 4 no candidate for the id is free. Of an establish
+ *            the status, 0 to 5. Else 0.
+ * charged:   1 where checks 1 to 8 pass and the call is a charged one; else 0.
+ * headroom:  where charged is 1, what the partner has at that time minus what the call costs: negative by what is missing exactly
+ *            if check is 9. Else 0.
+ */
+typedef struct {
+    uint32_t check;
+    uint32_t request;
+    uint32_t condition;
+    uint32_t charged;
+    int64_t headroom;
+} crondelith_reason;
+
+crondelith_reason crondelith_explain_open(const uint8_t *connections, size_t connections_length, const uint8_t *leases,
+                                          size_t leases_length, const uint8_t *allowances, size_t allowances_length, uint64_t now,
+                                          uint64_t connection, uint64_t reply_length);
+
+crondelith_reason crondelith_explain_message(const uint8_t *connections, size_t connections_length, const uint8_t *leases,
+                                             size_t leases_length, const uint8_t *allowances, size_t allowances_length, uint64_t now,
+                                             uint64_t connection, const uint8_t *message, size_t message_length,
+                                             const uint8_t *random, size_t random_length, uint64_t reply_length,
+                                             uint64_t relay_length);
+
+crondelith_reason crondelith_explain_close(const uint8_t *connections, size_t connections_length, const uint8_t *leases,
+                                           size_t leases_length, const uint8_t *allowances, size_t allowances_length, uint64_t now,
+                                           uint64_t connection, uint64_t relay_length);
+
 #ifdef __cplusplus
 }
 #endif

@@ -2,6 +2,7 @@
 #![allow(unsafe_code)]
 
 mod aligned;
+pub mod reasons;
 pub mod relay;
 pub mod svsc;
 
