@@ -15,7 +15,10 @@ use Rattle.rules.specs.Searches.{firstFrom, firstRow, endRow, firstOwn, 
 use Rattle.rules.specs.Tables.{partnerOf, ownerOf, hasSession, live, liveWithId, idOf, holder, cookieOf}
 use Rattle.rules.specs.Leases.{LeaseDecision, holdsLease, noSpareRow, cookieInUse, noFreeId, granted, holdsRow, spareRow, cookieTaken, randomCookie, candidate, idTaken, firstFree, decideLease, rowToExtend}
 use Rattle.rules.specs.Sessions.{refusedWith, rowOfId, decideEstablish}
-use Rattle.rules.specs.Effects.{LeaseConditions, isGranted, FirstFree, LowestOwn, Extendable, Statuses}
+use Rattle.rules.specs.Reasons.{conditionOf}
+use Rattle.rules.specs.Effects.{HoldsNone, HasSpare, NewCookie, FreeCandidate, LeaseConditions, isGranted, FirstFree, LowestOwn, Extendable, Statuses}
+use Rattle.rules.specs.Explained.{FirstFailing}
+use Rattle.rules.proofs.Exactly.{eq-exactly, not-exactly, and-exactly}
 use Rattle.rules.proofs.Searches.{first-passes, first-below, none-passes, all-fail, first-found}
 use Rattle.rules.proofs.Decisions.{is-granted, own-row, own-found, own-none, own-passes}
 
@@ -63,76 +66,102 @@ module _ (ls : List ℕ) (now c : ℕ) (random : List ℕ) where
       else if not free then noFreeId
       else granted (spareRow ls now p) (candidate random (firstFree ls now random)) (randomCookie random)
 
-  record Tests (holds spare cookie free : Bool) : Type 0 where
-    no-row : holds ≡ false
-    a-spare : spare ≡ true
-    no-cookie : cookie ≡ false
-    a-free : free ≡ true
+  -- each condition as a test
+  holds-exactly : (not (holdsRow ls now c) ≡ true) ↔ HoldsNone ls now c
+  unfolding holdsRow
+  holds-exactly =
+      let held : ℕ → Bool = λ r. eqb (holder ls r) c in (
+        (λ h r o l e. false≢true (sym (none-live ls now p held (not-true _ h) r o l) ∙ eq-eqb (holder ls r) c e)),
+        (λ f. rw (live-none ls now p held (λ r o l. ne-eqb (holder ls r) c (f r o l)))),
+      )
 
-  tests : (holds spare cookie free : Bool) → isGranted (decision holds spare cookie free) ≡ true → Tests holds spare cookie free
-  tests false true false true e = record { no-row = refl; a-spare = refl; no-cookie = refl; a-free = refl }
-  tests false true false false e = absurd (false≢true e)
-  tests false true true free e = absurd (false≢true e)
-  tests false false cookie free e = absurd (false≢true e)
-  tests true spare cookie free e = absurd (false≢true e)
+  spare-exactly : (ltb (spareRow ls now p) (endRow p) ≡ true) ↔ HasSpare ls now c
+  unfolding spareRow
+  spare-exactly =
+      let spare : ℕ → Bool = λ r. not (live ls now r) in (
+        (λ h.
+            let l = ltb-true (firstOwn p spare) (endRow p) h in
+            (firstOwn p spare, own-row p spare l .owner, not-true _ (own-passes p spare l))),
+        (λ q. own-found p spare (q .0) (q .1) (rw (q .2))),
+      )
 
-  abbrev Asked : Type 0
-  Asked =
-      Tests
-      (holdsRow ls now c)
-      (ltb (spareRow ls now p) (endRow p))
-      (cookieTaken ls now p (randomCookie random))
+  cookie-exactly : (not (cookieTaken ls now p (randomCookie random)) ≡ true) ↔ NewCookie ls now c random
+  unfolding cookieTaken
+  cookie-exactly =
+      let has : ℕ → Bool = λ r. same (cookieOf ls r) (randomCookie random) in (
+        (λ h r o l e. false≢true (sym (none-live ls now p has (not-true _ h) r o l) ∙ rw e (same-refl (randomCookie random)))),
+        (λ f. rw (live-none ls now p has (λ r o l. differ (cookieOf ls r) (randomCookie random) (f r o l)))),
+      )
+
+  free-exactly : (ltb (firstFree ls now random) candidateCount ≡ true) ↔ FreeCandidate ls now random
+  unfolding firstFree idTaken liveWithId candidate
+  free-exactly =
+      let free : ℕ → Bool = λ k. not (idTaken ls now (candidate random k)) in
+      let k = firstFrom free 0 candidateCount in (
+        (λ h.
+            let l = ltb-true k candidateCount h in
+            let none = none-passes (liveWithId ls now (candidate random k)) 0 rowCount (not-true _ (first-passes free 0 candidateCount l)) in
+            (k, l, λ r r< live e. false≢true (sym (none r (omega arith) r<) ∙ rw live (eq-eqb (idOf ls r) (candidate random k) e)))),
+        (λ q.
+            let id = candidate random (q .0) in
+            let none : idTaken ls now id ≡ false = all-fail (liveWithId ls now id) 0 rowCount (λ r l u. no-id ls now id r (q .2 r u)) in
+            let found = first-found free 0 candidateCount (q .0) (omega arith) (q .1) (rw none) in
+            lt-ltb k candidateCount (omega (arith, q .1))),
+      )
+
+  -- what is decided, by the four tests
+  record ByTests (none spare cookie free : Bool) (d : LeaseDecision) : Type 0 where
+    one : eqb (conditionOf d) 1 ≡ not none
+    two : eqb (conditionOf d) 2 ≡ none && not spare
+    three : eqb (conditionOf d) 3 ≡ none && (spare && not cookie)
+    four : eqb (conditionOf d) 4 ≡ none && (spare && (cookie && not free))
+    all : eqb (conditionOf d) 0 ≡ none && (spare && (cookie && free))
+    grants : isGranted d ≡ none && (spare && (cookie && free))
+
+  by-tests : (holds spare cookie free : Bool) → ByTests (not holds) spare (not cookie) free (decision holds spare cookie free)
+  by-tests true spare cookie free = record { one = refl; two = refl; three = refl; four = refl; all = refl; grants = refl }
+  by-tests false false cookie free = record { one = refl; two = refl; three = refl; four = refl; all = refl; grants = refl }
+  by-tests false true true free = record { one = refl; two = refl; three = refl; four = refl; all = refl; grants = refl }
+  by-tests false true false false = record { one = refl; two = refl; three = refl; four = refl; all = refl; grants = refl }
+  by-tests false true false true = record { one = refl; two = refl; three = refl; four = refl; all = refl; grants = refl }
+
+  tested : ByTests (not (holdsRow ls now c)) (ltb (spareRow ls now p) (endRow p)) (not (cookieTaken ls now p (randomCookie random)))
       (ltb (firstFree ls now random) candidateCount)
+      (decideLease ls now c random)
+  unfolding decideLease
+  tested = by-tests (holdsRow ls now c) _ (cookieTaken ls now p (randomCookie random)) _
 
-  -- each test is its condition
-  conditions : Asked → LeaseConditions ls now c random
-  unfolding holdsRow spareRow cookieTaken firstFree idTaken liveWithId candidate
-  conditions t =
-      let spare-test : ℕ → Bool = λ r. not (live ls now r) in
-      let spare< = ltb-true (firstOwn p spare-test) (endRow p) (t .a-spare) in
-      let free-test : ℕ → Bool = λ k. not (idTaken ls now (candidate random k)) in
-      let free< = ltb-true (firstFrom free-test 0 candidateCount) candidateCount (t .a-free) in
-      let not-held = none-live ls now p (λ r. eqb (holder ls r) c) (t .no-row) in
-      record {
-        holds-none = λ r o l h. false≢true (sym (not-held r o l) ∙ eq-eqb (holder ls r) c h);
-        spare = (firstOwn p spare-test, own-row p spare-test spare< .owner, not-true _ (own-passes p spare-test spare<));
-        new-cookie = λ r o l h.
-            false≢true
-            (sym (none-live ls now p (λ r. same (cookieOf ls r) (randomCookie random)) (t .no-cookie) r o l)
-            ∙ rw h (same-refl (randomCookie random)));
-        free = (
-          firstFrom free-test 0 candidateCount,
-          free<,
-          λ r r< l h.
-              let k = firstFrom free-test 0 candidateCount in
-              let free = not-true _ (first-passes free-test 0 candidateCount free<) in
-              let none = none-passes (liveWithId ls now (candidate random k)) 0 rowCount free r (omega arith) r< in
-              false≢true (sym none ∙ rw l (eq-eqb (idOf ls r) (candidate random k) h)),
-        );
-      }
-
-  asked : LeaseConditions ls now c random → Asked
-  unfolding holdsRow spareRow cookieTaken firstFree idTaken liveWithId candidate
-  asked q = record {
-    no-row = live-none ls now p (λ r. eqb (holder ls r) c) (λ r o l. ne-eqb (holder ls r) c (q .holds-none r o l));
-    a-spare = own-found p (λ r. not (live ls now r)) (q .spare .0) (q .spare .1) (rw (q .spare .2));
-    no-cookie =
-        live-none ls now p (λ r. same (cookieOf ls r) (randomCookie random))
-        (λ r o l. differ (cookieOf ls r) (randomCookie random) (q .new-cookie r o l));
-    a-free =
-        let id = candidate random (q .free .0) in
-        let free : idTaken ls now id ≡ false = all-fail (liveWithId ls now id) 0 rowCount (λ r l u. no-id ls now id r (q .free .2 r u)) in
-        let test : ℕ → Bool = λ k. not (idTaken ls now (candidate random k)) in
-        let found = first-found test 0 candidateCount (q .free .0) (omega arith) (q .free .1) (rw free) in
-        lt-ltb (firstFrom test 0 candidateCount) candidateCount (omega (arith, q .free .1));
-  }
+  all-exactly : (not (holdsRow ls now c)
+      && (ltb (spareRow ls now p) (endRow p)
+      && (not (cookieTaken ls now p (randomCookie random)) && ltb (firstFree ls now random) candidateCount))
+      ≡ true)
+      ↔ LeaseConditions ls now c random
+  all-exactly =
+      let e = and-exactly _ _ holds-exactly (and-exactly _ _ spare-exactly (and-exactly _ _ cookie-exactly free-exactly)) in (
+        (λ h. let q = e .0 h in record { holds-none = q .0; spare = q .1 .0; new-cookie = q .1 .1 .0; free = q .1 .1 .1 }),
+        (λ q. e .1 (q .holds-none, (q .spare, (q .new-cookie, q .free)))),
+      )
 
   pub lease-exactly : (isGranted (decideLease ls now c random) ≡ true) ↔ LeaseConditions ls now c random
-  unfolding decideLease
-  lease-exactly = (
-    (λ e. conditions (tests _ _ _ _ e)),
-    (λ q. let t = asked q in rw (t .no-row, t .a-spare, t .no-cookie, t .a-free)),
-  )
+  lease-exactly = rw (tested .grants) all-exactly
+
+  -- "which of the four lease conditions failed first in 01's order, or that all held"
+  pub first-failing : FirstFailing ls now c random (conditionOf (decideLease ls now c random))
+  first-failing = record {
+    one = by-number 1 (tested .one) (not-exactly _ holds-exactly);
+    two = by-number 2 (tested .two) (and-exactly _ _ holds-exactly (not-exactly _ spare-exactly));
+    three = by-number 3 (tested .three) (and-exactly _ _ holds-exactly (and-exactly _ _ spare-exactly (not-exactly _ cookie-exactly)));
+    four =
+        by-number 4 (tested .four)
+        (and-exactly _ _ holds-exactly (and-exactly _ _ spare-exactly (and-exactly _ _ cookie-exactly (not-exactly _ free-exactly))));
+    all = by-number 0 (tested .all) all-exactly;
+  }
+    where
+      by-number : {A : Type 0} {t : Bool} (k : ℕ) → eqb (conditionOf (decideLease ls now c random)) k ≡ t → (t ≡ true) ↔ A
+          → (conditionOf (decideLease ls now c random) ≡ k) ↔ A
+      by-number k e f =
+          let number = eq-exactly (conditionOf (decideLease ls now c random)) k in
+          ((λ h. f .0 (sym e ∙ number .1 h)), (λ a. number .0 (e ∙ f .1 a)))
 
   -- What is granted: the first free candidate, in the lowest row that isn't live.
   pub first-free : (row id : ℕ) (cookie : List ℕ) → decideLease ls now c random ≡ granted row id cookie

@@ -1,4 +1,4 @@
--- The laws of the rules. For readers: Sizes, Fresh, TableLaws; Refusals; CallLaws, MessageLaws, Leases, Room, Disconnects; Keys, Neighbours,
+-- The laws of the rules. For readers: Sizes, Fresh, TableLaws; Refusals, Reasons; CallLaws, MessageLaws, Leases, Room, Disconnects; Keys, Neighbours,
 -- Laws; Charges, Demand3. The others serve these.
 pub mod Sizes
 pub mod Searches
@@ -31,6 +31,7 @@ pub mod SamePlans
 pub mod Neighbours
 pub mod Keys
 pub mod Refusals
+pub mod Reasons
 pub mod Laws
 pub mod MessageLaws
 pub mod CallLaws

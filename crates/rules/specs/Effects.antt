@@ -166,13 +166,28 @@ candidateIn random k = numberAt random (24 + 4 * k) 4 % 67108864
 abbrev pub FreeId : List ℕ → ℕ → ℕ → Type 0
 FreeId ls now id = (r : ℕ) → r < rowCount → live ls now r ≡ true → idOf ls r ≢ id
 
--- "accepted exactly if the connection holds no live row, the partner has a row that isn't live, the draw's bytes 0-23 aren't the cookie of
--- a live row of the partner, and one of the candidates is free"
+-- The four conditions of a lease: "the connection holds no live row,
+abbrev pub HoldsNone : List ℕ → ℕ → ℕ → Type 0
+HoldsNone ls now c = (r : ℕ) → ownerOf r ≡ partnerOf c → live ls now r ≡ true → holder ls r ≢ c
+
+-- the partner has a row that isn't live,
+abbrev pub HasSpare : List ℕ → ℕ → ℕ → Type 0
+HasSpare ls now c = (r : ℕ) × (ownerOf r ≡ partnerOf c) × (live ls now r ≡ false)
+
+-- the draw's bytes 0-23 aren't the cookie of a live row of the partner,
+abbrev pub NewCookie : List ℕ → ℕ → ℕ → List ℕ → Type 0
+NewCookie ls now c random = (r : ℕ) → ownerOf r ≡ partnerOf c → live ls now r ≡ true → cookieOf ls r ≢ part random 0 24
+
+-- and one of the candidates is free"
+abbrev pub FreeCandidate : List ℕ → ℕ → List ℕ → Type 0
+FreeCandidate ls now random = (k : ℕ) × (k < 14) × FreeId ls now (candidateIn random k)
+
+-- "accepted exactly if" all of them hold
 pub record LeaseConditions (ls : List ℕ) (now c : ℕ) (random : List ℕ) : Type 0 where
-  pub holds-none : (r : ℕ) → ownerOf r ≡ partnerOf c → live ls now r ≡ true → holder ls r ≢ c
-  pub spare : (r : ℕ) × (ownerOf r ≡ partnerOf c) × (live ls now r ≡ false)
-  pub new-cookie : (r : ℕ) → ownerOf r ≡ partnerOf c → live ls now r ≡ true → cookieOf ls r ≢ part random 0 24
-  pub free : (k : ℕ) × (k < 14) × FreeId ls now (candidateIn random k)
+  pub holds-none : HoldsNone ls now c
+  pub spare : HasSpare ls now c
+  pub new-cookie : NewCookie ls now c random
+  pub free : FreeCandidate ls now random
 
 abbrev pub isGranted : LeaseDecision → Bool
 isGranted holdsLease = false

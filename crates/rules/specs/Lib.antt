@@ -1,4 +1,4 @@
--- The rules of the relay: all of 01 as definitions, in the order in which they build on each other; behind Demand3, from Layout on, what
+-- The rules of the relay: all of 01 as definitions, in the order in which they build on each other; behind Reasons, from Layout on, what
 -- the laws say, as statements.
 pub mod Sizes
 pub mod Searches
@@ -12,9 +12,11 @@ pub mod Checks
 pub mod Step
 pub mod Runs
 pub mod Demand3
+pub mod Reasons
 pub mod Layout
 pub mod Bytes
 pub mod Reading
 pub mod Refusals
 pub mod Effects
 pub mod Laws
+pub mod Explained

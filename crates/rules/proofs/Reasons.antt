@@ -1,0 +1,424 @@
+-- The reason that is named is the true one (02, Item 1): the check that stops a call, what decided it, and its headroom. Assumes nothing.
+use Prim.Native.Nat.{ℕ, zero, suc, _+_, _-_, _*_, _≤_, _<_, min}
+use mathlib.Core.Path.{_≡_, refl, sym, ap, ap₂, _∙_}
+use mathlib.Core.Logic.{_≢_, _⊎_, inl, inr, ⊎-elim, _↔_}
+use mathlib.Core.Bool.{Bool, true, false, _&&_, false≢true}
+use mathlib.Core.Option.{Option, none, some}
+use mathlib.Core.List.{List, [], _∷_, _++_}
+use native.Mathlib.Nat.{zero-add}
+use native.Mathlib.Omega.{arith}
+use native.Mathlib.Decide.{ℕ-discrete, decLt}
+use lib.Dec.{eqb, ltb, lit<}
+use lib.ListN.{length, getD, List·getD-append, List·getD-eq-default}
+use lib.IntN.{ℤ, pos, negsuc, _-ℤ_}
+use borrow.Author.Tests.{eq-eqb, ne-eqb, eqb-true, lt-ltb, le-ltb}
+use Rattle.octets.specs.Octets.{if_then_else_, byteAt, numberAt, bigEndian, part, put}
+use Rattle.octets.proofs.Tests.{both-left, both-right, by-test}
+use Rattle.octets.proofs.Numbers.{length-bigEndian}
+use Rattle.octets.proofs.Stores.{length-put, part-put, numberAt-put, numberAt-behind}
+use Rattle.svsc.specs.Messages.{EstablishRequest, typeOf, encode}
+use Rattle.allowance.specs.Bucket.{capacity, refillRate, Bucket, levelNow}
+use Rattle.allowance.specs.Meter.{verdict}
+use Rattle.allowance.proofs.Numbers.{verdict-nine, nine-verdict, zero-verdict}
+use Rattle.rules.specs.Sizes.{partners}
+use Rattle.rules.specs.Tables.{Tables, allowanceAt, updatedAt, bucketOf, clock, sized}
+use Rattle.rules.specs.Leases.{LeaseDecision, holdsLease, noSpareRow, cookieInUse, noFreeId, granted, decideLease}
+use Rattle.rules.specs.Sessions.{EstablishDecision, refusedWith, establishedWith, decideEstablish}
+use Rattle.rules.specs.Calls.{Call, opening, message, closing, timeOf, callerOf, replyBuffer, Outcome}
+use Rattle.rules.specs.Plans.{planLease, planEstablish, planMessage, plan}
+use Rattle.rules.specs.Charges.{charged, cost, price, callerLevel}
+use Rattle.rules.specs.Checks.{wrongTime, aboveLevel, firstEight, checks, precheck, check}
+use Rattle.rules.specs.Step.{step, done}
+use Rattle.rules.specs.Reasons.{conditionOf, statusOf, Decided, undecided, ofLease, ofEstablish, asked, decided, headroom, explain}
+use Rattle.rules.specs.Refusals.{Applies}
+use Rattle.rules.specs.Laws.{Accepted}
+use Rattle.rules.specs.Explained.{AsksDecision, LeaseNamed, EstablishNamed, credited, ShortBy, HeadroomExactly}
+use Rattle.rules.proofs.Records.{byte-part}
+use Rattle.rules.proofs.Messages.{by-type}
+use Rattle.rules.proofs.Checks.{none-applies, all-pass, at-most, check-verdict, Passed, passed, from-peer}
+use Rattle.rules.proofs.Answers.{answer-is-check, is-done, done-passed}
+use Rattle.rules.proofs.Leases.{first-failing, statuses}
+use Rattle.rules.proofs.Room.{messages-fit}
+use Rattle.rules.proofs.Metered.{price-most, bucket-stored}
+
+-- ---- the check
+
+-- "names the first check that stops the call": the number that the call is answered with
+pub check-named : (tables : Tables) (call : Call) → explain tables call .check ≡ step tables call .answer .number
+unfolding explain
+check-named tables call = sym (answer-is-check tables call)
+
+-- ---- what decided
+
+module _ (tables : Tables) (call : Call) where
+  named : explain tables call .decided ≡ (if eqb (step tables call .answer .number) 0 then asked tables call else undecided)
+  unfolding explain decided
+  named = rw (answer-is-check tables call)
+
+  named-done : Accepted tables call → explain tables call .decided ≡ asked tables call
+  named-done e = named ∙ rw (eq-eqb _ 0 e)
+
+  named-refused : step tables call .answer .number ≢ 0 → explain tables call .decided ≡ undecided
+  named-refused n = named ∙ rw (ne-eqb _ 0 n)
+
+  -- a byte of the reply of a call that is done
+  reply-byte : Accepted tables call → (i : ℕ) → i < length (plan tables call .reply)
+      → byteAt (step tables call .reply) i ≡ byteAt (plan tables call .reply) i
+  unfolding done
+  reply-byte e i l =
+      let bytes = plan tables call .reply in
+      let fits : length bytes ≤ length (replyBuffer call) = rw (is-done tables call e) at (messages-fit tables call e .0) in
+      rw (is-done tables call e)
+      (ap (byteAt (put (replyBuffer call) 0 bytes)) (sym (zero-add i))
+      ∙ sym (byte-part (put (replyBuffer call) 0 bytes) 0 (length bytes) i l)
+      ∙ rw (part-put (replyBuffer call) 0 bytes (omega arith)))
+
+-- what is named of a message, by its type
+module _ (t u : Bool) (a : LeaseDecision) (b : EstablishDecision) where
+  abbrev chosen : Decided
+  chosen = if t then ofLease a else if u then ofEstablish b else undecided
+
+chosen-lease : (t u : Bool) (a : LeaseDecision) (b : EstablishDecision) (d : LeaseDecision) → chosen t u a b ≡ ofLease d → (t ≡ true) × (d ≡ a)
+chosen-lease true u a b d e = (refl, cc)
+chosen-lease false true a b d e = absurd (let z : _≡_ {A = ℕ} 0 1 = cc in omega arith)
+chosen-lease false false a b d e = absurd (let z : _≡_ {A = ℕ} 0 1 = cc in omega arith)
+
+chosen-establish : (t u : Bool) (a : LeaseDecision) (b : EstablishDecision) (d : EstablishDecision) → chosen t u a b ≡ ofEstablish d
+    → (u ≡ true) × (d ≡ b)
+chosen-establish true u a b d e = absurd (let z : _≡_ {A = ℕ} 0 1 = cc in omega arith)
+chosen-establish false true a b d e = (refl, cc)
+chosen-establish false false a b d e = absurd (let z : _≡_ {A = ℕ} 0 1 = cc in omega arith)
+
+chosen-none : (t u : Bool) (a : LeaseDecision) (b : EstablishDecision) → chosen t u a b ≡ undecided → (t ≡ false) × (u ≡ false)
+chosen-none true u a b e = absurd (let z : _≡_ {A = ℕ} 0 1 = cc in omega arith)
+chosen-none false true a b e = absurd (let z : _≡_ {A = ℕ} 0 1 = cc in omega arith)
+chosen-none false false a b e = (refl, refl)
+
+module _ (tables : Tables) (now c : ℕ) (m random reply relay : List ℕ) where
+  open Tables tables using (connections as cs, leases as ls)
+
+  abbrev sent : Call
+  sent = message now c m random reply relay
+
+  -- what is named is named of a call that is done
+  done-if : (d : Decided) → d ≢ undecided → explain tables sent .decided ≡ d → Accepted tables sent × (asked tables sent ≡ d)
+  done-if d n h = go (ℕ-discrete (step tables sent .answer .number) 0)
+    where
+      go : Dec (Accepted tables sent) → Accepted tables sent × (asked tables sent ≡ d)
+      go (yes e) = (e, sym (named-done tables sent e) ∙ h)
+      go (no r) = absurd (n (sym h ∙ named-refused tables sent r))
+
+  asked-lease : typeOf m ≡ 2 → asked tables sent ≡ ofLease (decideLease ls now c random)
+  unfolding asked
+  asked-lease t = rw (eq-eqb (typeOf m) 2 t)
+
+  asked-establish : typeOf m ≡ 6 → asked tables sent ≡ ofEstablish (decideEstablish cs ls now c (numberAt m 1 4))
+  unfolding asked
+  asked-establish t = rw (ne-eqb (typeOf m) 2 (λ e. omega arith), eq-eqb (typeOf m) 6 t)
+
+  -- ---- a lease
+
+  lease-exactly : (d : LeaseDecision)
+      → (explain tables sent .decided ≡ ofLease d) ↔ (Accepted tables sent × ((typeOf m ≡ 2) × (d ≡ decideLease ls now c random)))
+  unfolding asked
+  lease-exactly d = (
+    (λ h.
+        let is = done-if (ofLease d) (λ e. let z : _≡_ {A = ℕ} 0 1 = cc in omega arith) h in
+        let by = chosen-lease (eqb (typeOf m) 2) (eqb (typeOf m) 6) _ _ d (is .1) in
+        (is .0, (eqb-true (typeOf m) 2 (by .0), by .1))),
+    (λ q. named-done tables sent (q .0) ∙ asked-lease (q .1 .0) ∙ ap ofLease (sym (q .1 .1))),
+  )
+
+  plan-lease : Accepted tables sent → typeOf m ≡ 2 → plan tables sent ≡ planLease tables now c (decideLease ls now c random)
+  unfolding plan planMessage
+  plan-lease e t =
+      ⊎-elim (λ r. rw r) (λ r. rw r) (by-type m (from-peer tables now c m random reply relay (done-passed tables sent e)) .two t)
+
+  -- byte 1 of the reply, by what was decided
+  told-lease : (d : LeaseDecision) → (1 < length (planLease tables now c d .reply))
+      × ((conditionOf d ≡ 0) ↔ (byteAt (planLease tables now c d .reply) 1 ≡ 1))
+  unfolding planLease encode
+  told-lease holdsLease = (lit< tt, ((λ e. absurd (omega arith)), (λ e. absurd (omega arith))))
+  told-lease noSpareRow = (lit< tt, ((λ e. absurd (omega arith)), (λ e. absurd (omega arith))))
+  told-lease cookieInUse = (lit< tt, ((λ e. absurd (omega arith)), (λ e. absurd (omega arith))))
+  told-lease noFreeId = (lit< tt, ((λ e. absurd (omega arith)), (λ e. absurd (omega arith))))
+  told-lease (granted row id cookie) = (omega arith, ((λ e. refl), (λ e. refl)))
+
+  pub lease-named : (d : LeaseDecision) → LeaseNamed tables now c m random reply relay d
+  lease-named d = record {
+    exactly = lease-exactly d;
+    first = λ h. rw (lease-exactly d .0 h .1 .1) (first-failing ls now c random);
+    acted = acted;
+    told = told;
+  }
+    where
+      acted : explain tables sent .decided ≡ ofLease d → plan tables sent ≡ planLease tables now c d
+      acted h = let is = lease-exactly d .0 h in plan-lease (is .0) (is .1 .0) ∙ rw (is .1 .1)
+
+      told : explain tables sent .decided ≡ ofLease d → (conditionOf d ≡ 0) ↔ (byteAt (step tables sent .reply) 1 ≡ 1)
+      told h =
+          let is = told-lease d in
+          rw (reply-byte tables sent (lease-exactly d .0 h .0) 1 (rw (acted h) (is .0)), acted h) (is .1)
+
+  -- ---- a session
+
+  establish-exactly : (d : EstablishDecision)
+      → (explain tables sent .decided ≡ ofEstablish d)
+      ↔ (Accepted tables sent × ((typeOf m ≡ 6) × (d ≡ decideEstablish cs ls now c (numberAt m 1 4))))
+  unfolding asked
+  establish-exactly d = (
+    (λ h.
+        let is = done-if (ofEstablish d) (λ e. let z : _≡_ {A = ℕ} 0 1 = cc in omega arith) h in
+        let by = chosen-establish (eqb (typeOf m) 2) (eqb (typeOf m) 6) _ _ d (is .1) in
+        (is .0, (eqb-true (typeOf m) 6 (by .0), by .1))),
+    (λ q. named-done tables sent (q .0) ∙ asked-establish (q .1 .0) ∙ ap ofEstablish (sym (q .1 .1))),
+  )
+
+  plan-establish : Accepted tables sent → typeOf m ≡ 6
+      → plan tables sent ≡ planEstablish tables c (numberAt m 1 4) random (decideEstablish cs ls now c (numberAt m 1 4))
+  unfolding plan planMessage
+  plan-establish e t = rw (by-type m (from-peer tables now c m random reply relay (done-passed tables sent e)) .six t)
+
+  -- byte 5 of the reply is the status
+  told-status : (id : ℕ) (d : EstablishDecision) → (5 < length (planEstablish tables c id random d .reply))
+      × (statusOf d ≡ byteAt (planEstablish tables c id random d .reply) 5)
+  unfolding planEstablish encode bigEndian
+  told-status id (refusedWith status) = (lit< tt, refl)
+  told-status id (establishedWith h) = (omega arith, refl)
+
+  pub establish-named : (d : EstablishDecision) → EstablishNamed tables now c m random reply relay d
+  establish-named d = record {
+    exactly = establish-exactly d;
+    first = λ h. rw (establish-exactly d .0 h .1 .1) (statuses cs ls now c (numberAt m 1 4));
+    acted = acted;
+    told = told;
+  }
+    where
+      acted : explain tables sent .decided ≡ ofEstablish d → plan tables sent ≡ planEstablish tables c (numberAt m 1 4) random d
+      acted h = let is = establish-exactly d .0 h in plan-establish (is .0) (is .1 .0) ∙ rw (is .1 .1)
+
+      told : explain tables sent .decided ≡ ofEstablish d → statusOf d ≡ byteAt (step tables sent .reply) 5
+      told h =
+          let is = told-status (numberAt m 1 4) d in
+          rw (reply-byte tables sent (establish-exactly d .0 h .0) 5 (rw (acted h) (is .0)), acted h) (is .1)
+
+-- Nothing is named of any other call, and of one that a check stops.
+asking : (tables : Tables) (call : Call) → AsksDecision call → asked tables call ≡ undecided → ⊥
+unfolding asked
+asking tables (opening now c reply) q h = q
+asking tables (message now c m random reply relay) q h =
+    let no = chosen-none (eqb (typeOf m) 2) (eqb (typeOf m) 6) _ _ h in
+    ⊎-elim (λ t. false≢true (sym (no .0) ∙ eq-eqb (typeOf m) 2 t)) (λ t. false≢true (sym (no .1) ∙ eq-eqb (typeOf m) 6 t)) q
+asking tables (closing now c relay) q h = q
+
+not-asking : (tables : Tables) (call : Call) → (AsksDecision call → ⊥) → asked tables call ≡ undecided
+unfolding asked
+not-asking tables (opening now c reply) n = refl
+not-asking tables (message now c m random reply relay) n =
+    rw (ne-eqb (typeOf m) 2 (λ t. n (inl t)), ne-eqb (typeOf m) 6 (λ t. n (inr t)))
+not-asking tables (closing now c relay) n = refl
+
+pub nothing-named : (tables : Tables) (call : Call)
+    → (explain tables call .decided ≡ undecided) ↔ ((Accepted tables call × AsksDecision call) → ⊥)
+nothing-named tables call = (
+  (λ h q. asking tables call (q .1) (sym (named-done tables call (q .0)) ∙ h)),
+  (λ n. go n (ℕ-discrete (step tables call .answer .number) 0)),
+)
+  where
+    go : ((Accepted tables call × AsksDecision call) → ⊥) → Dec (Accepted tables call) → explain tables call .decided ≡ undecided
+    go n (yes e) = named-done tables call e ∙ not-asking tables call (λ q. n (e, q))
+    go n (no r) = named-refused tables call r
+
+-- ---- the headroom
+
+-- a difference of two numbers
+below-zero : (a b : ℕ) → a < b → pos a -ℤ pos b ≡ negsuc (b - suc a)
+below-zero a zero h = absurd (omega arith)
+below-zero a (suc b) h = rw (lt-ltb a (suc b) h)
+
+not-below : (a b : ℕ) → b ≤ a → pos a -ℤ pos b ≡ pos (a - b)
+not-below a zero h = ap pos (omega arith)
+not-below a (suc b) h = rw (le-ltb a (suc b) h)
+
+-- what is known where it is the one, or the other
+is-below : (a b n : ℕ) → pos a -ℤ pos b ≡ negsuc n → b ≡ a + (n + 1)
+is-below a b n e = go (decLt a b)
+  where
+    go : Dec (a < b) → b ≡ a + (n + 1)
+    go (yes l) = let f : b - suc a ≡ n = cc (below-zero a b l) in omega arith
+    go (no l) = absurd (let z : _≡_ {A = ℕ} 0 1 = cc (not-below a b (omega arith)) in omega arith)
+
+is-rest : (a b n : ℕ) → pos a -ℤ pos b ≡ pos n → a ≡ b + n
+is-rest a b n e = go (decLt a b)
+  where
+    go : Dec (a < b) → a ≡ b + n
+    go (yes l) = absurd (let z : _≡_ {A = ℕ} 0 1 = cc (below-zero a b l) in omega arith)
+    go (no l) = let f : a - b ≡ n = cc (not-below a b (omega arith)) in omega arith
+
+module _ (tables : Tables) (call : Call) where
+  open Tables tables using (allowances as al)
+
+  abbrev level : ℕ
+  level = callerLevel al call
+
+  headroom-is : precheck tables call ≡ 0 → charged call ≡ true → explain tables call .headroom ≡ some (pos level -ℤ pos (price tables call))
+  unfolding explain headroom
+  headroom-is h k = rw (eq-eqb (precheck tables call) 0 h, k)
+
+  known : (z : ℤ) → explain tables call .headroom ≡ some z
+      → (precheck tables call ≡ 0) × ((charged call ≡ true) × (pos level -ℤ pos (price tables call) ≡ z))
+  unfolding explain headroom
+  known z h = go (eqb (precheck tables call) 0) (charged call) refl refl h
+    where
+      go : (t k : Bool) → eqb (precheck tables call) 0 ≡ t → charged call ≡ k
+          → (if t && k then some (pos level -ℤ pos (price tables call)) else none) ≡ some z
+          → (precheck tables call ≡ 0) × ((charged call ≡ true) × (pos level -ℤ pos (price tables call) ≡ z))
+      go true true e f h = (eqb-true (precheck tables call) 0 e, (f, cc))
+      go true false e f h = absurd (let z : _≡_ {A = ℕ} 0 1 = cc in omega arith)
+      go false k e f h = absurd (let z : _≡_ {A = ℕ} 0 1 = cc in omega arith)
+
+  -- "checks 1 to 8 pass"
+  eight-pass : (precheck tables call ≡ 0) ↔ ((n : ℕ) → 1 ≤ n → n ≤ 8 → Applies n tables call → ⊥)
+  unfolding precheck checks firstEight
+  eight-pass = (
+    (λ h n l u a. false≢true (sym (none-applies 0 eight h (n - 1)) ∙ sym (among (n - 1) (omega arith)) ∙ a)),
+    (λ f. all-pass 1 eight (λ i. go f i (decLt i 8))),
+  )
+    where
+      eight : List Bool
+      eight = firstEight tables call
+
+      among : (i : ℕ) → i < 8 → getD (checks tables call) i false ≡ getD eight i false
+      among i l = List·getD-append eight (aboveLevel tables call ∷ []) false i l
+
+      go : ((n : ℕ) → 1 ≤ n → n ≤ 8 → Applies n tables call → ⊥) → (i : ℕ) → Dec (i < 8) → getD eight i false ≡ false
+      go f i (yes l) =
+          let e : suc i - 1 ≡ i = omega arith in
+          ⊎-elim (λ a. absurd ((rw e at (f (suc i) (omega arith) (omega arith))) (among i l ∙ a))) (λ a. a) (by-test (getD eight i false))
+      go f i (no l) = let past : 8 ≤ i = omega arith in List·getD-eq-default eight false past
+
+  verdict-is : step tables call .answer .number ≡ verdict (precheck tables call) (charged call) level (price tables call)
+  verdict-is = answer-is-check tables call ∙ check-verdict tables call
+
+  negative-exactly : ((n : ℕ) × (explain tables call .headroom ≡ some (negsuc n))) ↔ (step tables call .answer .number ≡ 9)
+  unfolding precheck firstEight
+  negative-exactly = (
+    (λ q.
+        let is = known (negsuc (q .0)) (q .1) in
+        let short = is-below level (price tables call) (q .0) (is .1 .1) in
+        verdict-is ∙ nine-verdict _ _ _ _ (is .0) (is .1 .0) (omega arith)),
+    (λ e.
+        let is = verdict-nine _ _ _ _ (at-most 0 (firstEight tables call)) (sym verdict-is ∙ e) in
+        (price tables call - suc level, headroom-is (is .0) (is .1) ∙ ap some (below-zero level (price tables call) (is .2)))),
+  )
+
+  left-is : (n : ℕ) → explain tables call .headroom ≡ some (pos n)
+      → Accepted tables call
+      × (bucketOf (step tables call .tables .allowances) (callerOf call) ≡ record { level = n; updated = timeOf call })
+  unfolding callerLevel
+  left-is n h =
+      let is = known (pos n) h in
+      let rest = is-rest level (price tables call) n (is .1 .1) in
+      let e : Accepted tables call = verdict-is ∙ zero-verdict _ _ _ _ (is .0) (λ k. omega arith) in
+      let p< = passed tables call (is .0) .of-partner in
+      let left : levelNow (bucketOf al (callerOf call)) (timeOf call) - price tables call ≡ n = omega arith in
+      (e, bucket-stored tables call e (callerOf call) p< ∙ rw (is .1 .0, eq-eqb (callerOf call) (callerOf call) refl, left))
+
+-- ---- the shortfall
+
+-- k units more in a bucket are k units more of its level, up to the capacity
+more-level : (stored refill k : ℕ) → min capacity (min capacity stored + refill) + k ≤ capacity
+    → min capacity (min capacity (stored + k) + refill) ≡ min capacity (min capacity stored + refill) + k
+more-level stored refill k h = omega arith
+
+stored-most : (stored refill : ℕ) → min capacity (min capacity stored + refill) < capacity
+    → stored ≤ min capacity (min capacity stored + refill)
+stored-most stored refill h = omega arith
+
+module _ (tables : Tables) (call : Call) (h : precheck tables call ≡ 0) (k : ℕ) where
+  open Tables tables using (allowances as al)
+
+  abbrev p : ℕ
+  p = callerOf call
+
+  abbrev units : List ℕ
+  units = bigEndian 8 (bucketOf al p .level + k)
+
+  abbrev richer : Tables
+  richer = credited tables p k
+
+  ok : Passed tables call
+  ok = passed tables call h
+
+  clock-credited : clock (put al (allowanceAt p) units) ≡ clock al
+  unfolding clock
+  clock-credited =
+      numberAt-behind al (allowanceAt p) units (updatedAt partners) 8
+      (rw (length-bigEndian 8 (bucketOf al p .level + k)) (omega (arith, ok .of-partner)))
+
+  pub precheck-credited : precheck richer call ≡ 0
+  unfolding precheck firstEight credited sized wrongTime
+  precheck-credited = rw (length-put al (allowanceAt p) units, clock-credited) h
+
+  module _ (l : callerLevel al call < capacity) (u : callerLevel al call + k ≤ capacity) where
+    bucket-credited : bucketOf (put al (allowanceAt p) units) p ≡ record { level = bucketOf al p .level + k; updated = bucketOf al p .updated }
+    unfolding bucketOf callerLevel levelNow
+    bucket-credited =
+        let most = stored-most (numberAt al (allowanceAt p) 8) (refillRate * (timeOf call - numberAt al (updatedAt p) 8)) l in
+        ap₂ (λ (l u : ℕ). record { level = l; updated = u })
+        (numberAt-put al (allowanceAt p) 8 (numberAt al (allowanceAt p) 8 + k) (omega (arith, ok .allowances, ok .of-partner)) (omega arith))
+        (numberAt-behind al (allowanceAt p) units (updatedAt p) 8 (rw (length-bigEndian 8 (numberAt al (allowanceAt p) 8 + k)) (omega arith)))
+
+    level-credited : callerLevel (richer .allowances) call ≡ callerLevel al call + k
+    unfolding credited callerLevel levelNow
+    level-credited =
+        rw bucket-credited (more-level (bucketOf al p .level) (refillRate * (timeOf call - bucketOf al p .updated)) k u)
+
+    pub credited-answer : step richer call .answer .number
+        ≡ verdict (precheck richer call) (charged call) (callerLevel al call + k) (price tables call)
+    unfolding price
+    credited-answer = answer-is-check richer call ∙ check-verdict richer call ∙ rw level-credited
+
+module _ (tables : Tables) (call : Call) where
+  short-is : (n : ℕ) → explain tables call .headroom ≡ some (negsuc n) → ShortBy tables call (n + 1)
+  short-is n e = record { enough = enough; fewer = fewer }
+    where
+      has : ℕ
+      has = callerLevel (tables .allowances) call
+
+      is : (precheck tables call ≡ 0) × ((charged call ≡ true) × (pos has -ℤ pos (price tables call) ≡ negsuc n))
+      is = known tables call (negsuc n) e
+
+      short : price tables call ≡ has + (n + 1)
+      short = is-below has (price tables call) n (is .1 .1)
+
+      most : price tables call ≤ capacity
+      most = omega (arith, price-most tables call (is .0))
+
+      answer : (k : ℕ) → k ≤ n + 1
+          → step (credited tables (callerOf call) k) call .answer .number
+          ≡ verdict (precheck (credited tables (callerOf call) k) call) (charged call) (has + k) (price tables call)
+      answer k l = credited-answer tables call (is .0) k (omega (arith, short, most)) (omega (arith, short, most))
+
+      enough : step (credited tables (callerOf call) (n + 1)) call .answer .number ≡ 0
+      enough =
+          answer (n + 1) (omega arith)
+          ∙ zero-verdict _ _ _ _ (precheck-credited tables call (is .0) (n + 1)) (λ _. omega (arith, short))
+
+      fewer : (k : ℕ) → k < n + 1 → step (credited tables (callerOf call) k) call .answer .number ≡ 9
+      fewer k l =
+          answer k (omega arith)
+          ∙ nine-verdict _ _ _ _ (precheck-credited tables call (is .0) k) (is .1 .0) (omega (arith, short))
+
+  pub headroom-exactly : HeadroomExactly tables call
+  unfolding callerLevel price
+  headroom-exactly = record {
+    there = (
+      (λ q. let is = known tables call (q .0) (q .1) in (eight-pass tables call .0 (is .0), is .1 .0)),
+      (λ q. (pos (level tables call) -ℤ pos (cost call), headroom-is tables call (eight-pass tables call .1 (q .0)) (q .1))),
+    );
+    difference = λ z h. sym (known tables call z h .1 .1);
+    negative = negative-exactly tables call;
+    short = short-is;
+    left = left-is tables call;
+  }

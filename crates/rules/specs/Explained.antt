@@ -1,0 +1,90 @@
+-- What the laws of reasons say: "The reason named must be the true one on every board" (02, Item 1), as statements.
+use Prim.Native.Nat.{ℕ, _+_, _≤_, _<_}
+use mathlib.Core.Path.{_≡_}
+use mathlib.Core.Logic.{_⊎_, _↔_}
+use mathlib.Core.Bool.{true}
+use mathlib.Core.Option.{some}
+use mathlib.Core.List.{List}
+use lib.IntN.{ℤ, pos, negsuc, _-ℤ_}
+use Rattle.octets.specs.Octets.{byteAt, numberAt, bigEndian, put}
+use Rattle.svsc.specs.Messages.{typeOf}
+use Rattle.allowance.specs.Bucket.{levelNow}
+use Rattle.rules.specs.Tables.{Tables, partnerOf, allowanceAt, bucketOf}
+use Rattle.rules.specs.Leases.{LeaseDecision, decideLease}
+use Rattle.rules.specs.Sessions.{EstablishDecision, rowOfId, decideEstablish}
+use Rattle.rules.specs.Calls.{Call, opening, message, closing, timeOf, callerOf}
+use Rattle.rules.specs.Plans.{planLease, planEstablish, plan}
+use Rattle.rules.specs.Charges.{charged, cost}
+use Rattle.rules.specs.Step.{step}
+use Rattle.rules.specs.Reasons.{conditionOf, statusOf, undecided, ofLease, ofEstablish, explain}
+use Rattle.rules.specs.Refusals.{Applies}
+use Rattle.rules.specs.Effects.{HoldsNone, HasSpare, NewCookie, FreeCandidate, LeaseConditions, Statuses}
+use Rattle.rules.specs.Laws.{Accepted}
+
+-- "which of the four lease conditions failed first in 01's order, or that all held": k is its number, or 0
+pub record FirstFailing (ls : List ℕ) (now c : ℕ) (random : List ℕ) (k : ℕ) : Type 0 where
+  pub one : (k ≡ 1) ↔ (HoldsNone ls now c → ⊥)
+  pub two : (k ≡ 2) ↔ (HoldsNone ls now c × (HasSpare ls now c → ⊥))
+  pub three : (k ≡ 3) ↔ (HoldsNone ls now c × (HasSpare ls now c × (NewCookie ls now c random → ⊥)))
+  pub four : (k ≡ 4)
+      ↔ (HoldsNone ls now c × (HasSpare ls now c × (NewCookie ls now c random × (FreeCandidate ls now random → ⊥))))
+  pub all : (k ≡ 0) ↔ LeaseConditions ls now c random
+
+-- a call that asks for a lease or for a session
+abbrev pub AsksDecision : Call → Type 0
+AsksDecision (opening now c reply) = ⊥
+AsksDecision (message now c m random reply relay) = (typeOf m ≡ 2) ⊎ (typeOf m ≡ 6)
+AsksDecision (closing now c relay) = ⊥
+
+-- A lease: the decision is named exactly of a done message of type 2; its condition is the first that fails, the plan acted by it, and the
+-- caller is told by it.
+pub record LeaseNamed (tables : Tables) (now c : ℕ) (m random reply relay : List ℕ) (d : LeaseDecision) : Type 0 where
+  pub exactly : (explain tables (message now c m random reply relay) .decided ≡ ofLease d)
+      ↔ (Accepted tables (message now c m random reply relay) × ((typeOf m ≡ 2) × (d ≡ decideLease (tables .leases) now c random)))
+  pub first : explain tables (message now c m random reply relay) .decided ≡ ofLease d
+      → FirstFailing (tables .leases) now c random (conditionOf d)
+  pub acted : explain tables (message now c m random reply relay) .decided ≡ ofLease d
+      → plan tables (message now c m random reply relay) ≡ planLease tables now c d
+  -- byte 1 of the reply is "accepted"
+  pub told : explain tables (message now c m random reply relay) .decided ≡ ofLease d
+      → (conditionOf d ≡ 0) ↔ (byteAt (step tables (message now c m random reply relay) .reply) 1 ≡ 1)
+
+-- A session: the same of type 6; byte 5 of the reply is the status.
+pub record EstablishNamed (tables : Tables) (now c : ℕ) (m random reply relay : List ℕ) (d : EstablishDecision) : Type 0 where
+  pub exactly : (explain tables (message now c m random reply relay) .decided ≡ ofEstablish d)
+      ↔ (Accepted tables (message now c m random reply relay)
+      × ((typeOf m ≡ 6) × (d ≡ decideEstablish (tables .connections) (tables .leases) now c (numberAt m 1 4))))
+  pub first : explain tables (message now c m random reply relay) .decided ≡ ofEstablish d
+      → Statuses (tables .connections) (tables .leases) c (rowOfId (tables .leases) now (partnerOf c) (numberAt m 1 4)) d
+  pub acted : explain tables (message now c m random reply relay) .decided ≡ ofEstablish d
+      → plan tables (message now c m random reply relay) ≡ planEstablish tables c (numberAt m 1 4) random d
+  pub told : explain tables (message now c m random reply relay) .decided ≡ ofEstablish d
+      → statusOf d ≡ byteAt (step tables (message now c m random reply relay) .reply) 5
+
+-- the tables with k units more in partner p's allowance
+unfoldable pub credited : Tables → ℕ → ℕ → Tables
+credited tables p k = record {
+  connections = tables .connections;
+  leases = tables .leases;
+  allowances = put (tables .allowances) (allowanceAt p) (bigEndian 8 (bucketOf (tables .allowances) p .level + k));
+}
+
+-- "negative by exactly the shortfall": with so many units more the same call is done, with fewer it is refused with 9
+pub record ShortBy (tables : Tables) (call : Call) (units : ℕ) : Type 0 where
+  pub enough : step (credited tables (callerOf call) units) call .answer .number ≡ 0
+  pub fewer : (k : ℕ) → k < units → step (credited tables (callerOf call) k) call .answer .number ≡ 9
+
+pub record HeadroomExactly (tables : Tables) (call : Call) : Type 0 where
+  -- "Where checks 1 to 8 pass and the call is charged, and only there"
+  pub there : ((z : ℤ) × (explain tables call .headroom ≡ some z))
+      ↔ (((n : ℕ) → 1 ≤ n → n ≤ 8 → Applies n tables call → ⊥) × (charged call ≡ true))
+  -- "level minus charge"
+  pub difference : (z : ℤ) → explain tables call .headroom ≡ some z
+      → z ≡ pos (levelNow (bucketOf (tables .allowances) (callerOf call)) (timeOf call)) -ℤ pos (cost call)
+  -- negative exactly if the answer is 9, and then by what is missing;
+  pub negative : ((n : ℕ) × (explain tables call .headroom ≡ some (negsuc n))) ↔ (step tables call .answer .number ≡ 9)
+  pub short : (n : ℕ) → explain tables call .headroom ≡ some (negsuc n) → ShortBy tables call (n + 1)
+  -- else the call is done, and leaves as much
+  pub left : (n : ℕ) → explain tables call .headroom ≡ some (pos n)
+      → Accepted tables call
+      × (bucketOf (step tables call .tables .allowances) (callerOf call) ≡ record { level = n; updated = timeOf call })
