@@ -37,15 +37,15 @@ fn larger(a: usize, b: usize) -> usize
     if a < b { b } else { a }
 }
 
-// 5, of a message: its random bytes and both buffers.
-pub fn are_wrong_lengths(m: &[u8], random: &[u8], reply: &[u8], relay: &[u8]) -> bool
-    ensures { λ r. ⌜ ((time c : ℕ) → r ≡ wrongLengths (message time c (now (m .entry)) (now (random .entry)) (now (reply .entry))
-        (now (relay .entry)))) ⌝ }
+// 5, of a message: its random bytes, and both buffers by their lengths.
+pub fn are_wrong_lengths(m: &[u8], random: &[u8], reply_length: usize, relay_length: usize) -> bool
+    ensures { λ r. ⌜ ((time c : ℕ) (reply relay : List ℕ) → length reply ≡ «reply_length» → length relay ≡ «relay_length»
+        → r ≡ wrongLengths (message time c (now (m .entry)) (now (random .entry)) reply relay)) ⌝ }
 {
     let least = larger(rules::LEAST_BUFFER, m.len());
     (random.len() != rules::RANDOM_BYTES)
-        | (reply.len() < rules::LEAST_BUFFER)
-        | (relay.len() < least)
+        | (reply_length < rules::LEAST_BUFFER)
+        | (relay_length < least)
 }
 
 const YES: bool = true;

@@ -4,6 +4,7 @@ use mathlib.Core.Path.{_≡_, sym, _∙_}
 use mathlib.Core.Bool.{Bool, true, false, not, _&&_, _||_}
 use mathlib.Core.List.{List, [], _∷_, _++_}
 use lib.Dec.{eqb, ltb}
+use lib.ListN.{length, replicate, length-replicate}
 use borrow.Author.Tests.{eq-eqb, ne-eqb, lt-ltb, le-ltb, not-false}
 use Rattle.octets.specs.Octets.{byteAt}
 use Rattle.svsc.specs.Messages.{typeOf, fromPeer}
@@ -58,10 +59,14 @@ module _ (cs : List ℕ) (time c : ℕ) (m random reply relay : List ℕ) (s : �
           unfolding ownChecks wrongState notFromPeer notPermitted firstApplying
           own-pass h = rw (← hs, ne-eqb s 0 n, ← hx, nx, ← hy, ny, type-is, ← hp, np, session-is, h)
 
--- what five passed checks show
-pub own-peer : (cs : List ℕ) (time c : ℕ) (m random reply relay : List ℕ) (k : ℕ) → k ≡ ownChecks cs (message time c m random reply relay) → k ≡ 0 → fromPeer m ≡ true
+-- what five passed checks show, of buffers of any content
+pub own-peer : (cs : List ℕ) (time c : ℕ) (m random : List ℕ) (n l k : ℕ)
+    → ((reply relay : List ℕ) → length reply ≡ n → length relay ≡ l → k ≡ ownChecks cs (message time c m random reply relay)) → k ≡ 0 → fromPeer m ≡ true
 unfolding ownChecks notFromPeer
-own-peer cs time c m random reply relay k e z = not-false _ (first-passed 5 _ _ (others-passed 4 _ _ (others-passed 3 _ _ (sym e ∙ z))))
+own-peer cs time c m random n l k e z =
+    not-false _
+    (first-passed 5 _ _
+    (others-passed 4 _ _ (others-passed 3 _ _ (sym (e (replicate n 0) (replicate l 0) (length-replicate n 0) (length-replicate l 0)) ∙ z))))
 
 -- ---- all nine
 

@@ -1,6 +1,8 @@
-// The checks of a message in their order: the number of the first that applies, or 0. They only read.
+// The checks of a message in their order: the number of the first that applies, or 0. They only read, and of a buffer they get the length.
 ghost use mathlib.Core.Path.{_≡_};
+ghost use mathlib.Core.List.{List};
 ghost use Prim.Native.Nat.{ℕ};
+ghost use lib.ListN.{length};
 ghost use Rattle.rules.specs.Tables.{lent};
 ghost use Rattle.rules.specs.Calls.{message};
 ghost use Rattle.rules.specs.Checks.{check};
@@ -12,17 +14,17 @@ fn own_refusal(
     c: u8,
     m: &[u8],
     random: &[u8],
-    reply: &[u8],
-    relay: &[u8],
+    reply_length: usize,
+    relay_length: usize,
 ) -> u32
-    ensures { λ r. ⌜ ((time : ℕ) → r ≡ ownChecks (now (connections .entry)) (message time c (now (m .entry)) (now (random .entry))
-        (now (reply .entry)) (now (relay .entry)))) ⌝ }
+    ensures { λ r. ⌜ ((time : ℕ) (reply relay : List ℕ) → length reply ≡ «reply_length» → length relay ≡ «relay_length»
+        → r ≡ ownChecks (now (connections .entry)) (message time c (now (m .entry)) (now (random .entry)) reply relay)) ⌝ }
 {
     let state = connection_table::state(connections, c);
     if state == rules::CLOSED {
         return 4;
     }
-    if checks::are_wrong_lengths(m, random, reply, relay) {
+    if checks::are_wrong_lengths(m, random, reply_length, relay_length) {
         return 5;
     }
     if !svsc_reader::from_peer(m) {
@@ -47,18 +49,19 @@ pub fn refusal(
     connection: u64,
     m: &[u8],
     random: &[u8],
-    reply: &[u8],
-    relay: &[u8],
+    reply_length: usize,
+    relay_length: usize,
 ) -> u32
-    ensures { λ r. ⌜ r ≡ check (lent (now (connections .entry)) (now (leases .entry)) (now (allowances .entry)))
-        (message time connection (now (m .entry)) (now (random .entry)) (now (reply .entry)) (now (relay .entry))) ⌝ }
+    ensures { λ r. ⌜ ((reply relay : List ℕ) → length reply ≡ «reply_length» → length relay ≡ «relay_length»
+        → r ≡ check (lent (now (connections .entry)) (now (leases .entry)) (now (allowances .entry)))
+        (message time connection (now (m .entry)) (now (random .entry)) reply relay)) ⌝ }
 {
     let first = refusals::first_three(connections, leases, allowances, time, connection);
     if first != 0 {
         return first;
     }
     let c = connection as u8;
-    let own = own_refusal(connections, c, m, random, reply, relay);
+    let own = own_refusal(connections, c, m, random, reply_length, relay_length);
     if own != 0 {
         return own;
     }

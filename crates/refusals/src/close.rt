@@ -1,5 +1,8 @@
 // Closing a connection.
 ghost use mathlib.Core.Path.{_≡_};
+ghost use mathlib.Core.List.{List};
+ghost use Prim.Native.Nat.{ℕ};
+ghost use lib.ListN.{length};
 ghost use Rattle.rules.specs.Tables.{lent};
 ghost use Rattle.rules.specs.Calls.{closing};
 ghost use Rattle.rules.specs.Checks.{check};
@@ -10,10 +13,10 @@ pub fn refusal(
     allowances: &[u8],
     time: u64,
     connection: u64,
-    relay: &[u8],
+    relay_length: usize,
 ) -> u32
-    ensures { λ r. ⌜ r ≡ check (lent (now (connections .entry)) (now (leases .entry)) (now (allowances .entry)))
-        (closing time connection (now (relay .entry))) ⌝ }
+    ensures { λ r. ⌜ ((relay : List ℕ) → length relay ≡ «relay_length»
+        → r ≡ check (lent (now (connections .entry)) (now (leases .entry)) (now (allowances .entry))) (closing time connection relay)) ⌝ }
 {
     let first = crate::first_three(connections, leases, allowances, time, connection);
     if first != 0 {
@@ -23,7 +26,7 @@ pub fn refusal(
     if connection_table::state(connections, c) == rules::CLOSED {
         return 4;
     }
-    if relay.len() < rules::LEAST_BUFFER {
+    if relay_length < rules::LEAST_BUFFER {
         return 5;
     }
     0

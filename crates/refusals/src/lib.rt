@@ -1,5 +1,5 @@
-// The checks of a call in their order: the number of the first that applies, or 0. They only read. Those of a message have a crate of their
-// own, `message_refusal`.
+// The checks of a call in their order: the number of the first that applies, or 0. They only read, and of a buffer they get the length,
+// which is all that counts. Those of a message have a crate of their own, `message_refusal`.
 ghost use mathlib.Core.Path.{_≡_};
 ghost use Rattle.rules.specs.Tables.{lent};
 ghost use Rattle.refusals.specs.Passed.{firstThree};

@@ -52,7 +52,7 @@ pub extern "C" fn crondelith_close(
         allowances,
         time,
         connection,
-        relay,
+        relay.len(),
     );
     if refusal != 0 {
         return answers::sent_nothing(refusal);

@@ -31,8 +31,8 @@ pub extern "C" fn crondelith_message(
         connection,
         m,
         random,
-        reply,
-        relay,
+        reply.len(),
+        relay.len(),
     );
     if refusal != 0 {
         return answers::sent_nothing(refusal);

@@ -44,7 +44,14 @@ pub extern "C" fn crondelith_open(
         ≡ shown (step (lent (now (connections .entry)) (now (leases .entry)) (now (allowances .entry))) (opening time connection
         (now (reply .entry)))) ⌝ }
 {
-    let refusal = refusals::open::refusal(connections, leases, allowances, time, connection, reply);
+    let refusal = refusals::open::refusal(
+        connections,
+        leases,
+        allowances,
+        time,
+        connection,
+        reply.len(),
+    );
     if refusal != 0 {
         return answers::sent_nothing(refusal);
     }

@@ -9,7 +9,7 @@ larger-requires c κs = search needs
 
 returns : tie.Need-returns
 unfolding wrongLengths
-returns c time k = rw (c .larger .ensures)
+returns c time k reply relay e f = rw (c .larger .ensures, e, f)
 
 pub are-wrong-lengths-spec : {M : Type 1} → statement M
 are-wrong-lengths-spec = tie.close (tie.spec larger-requires returns)

@@ -8,25 +8,25 @@ state-requires : tie.Need-state-requires
 state-requires c κs = search needs
 
 returns : tie.Need-returns
-returns c time =
-    let a = c .before .before .before .before .before .before .before .args in
-    own-wrong-state (a .connections .now) time (a .c) (a .m .now) (a .random .now) (a .reply .now) (a .relay .now) _ (c .before .state .ensures) (c .if1 .taken)
+returns c time reply relay n l =
+    let a = c .before .before .before .before .before .args in
+    own-wrong-state (a .connections .now) time (a .c) (a .m .now) (a .random .now) reply relay _ (c .before .state .ensures) (c .if1 .taken)
 
 are-wrong-lengths-requires : tie.Need-are-wrong-lengths-requires
 are-wrong-lengths-requires c κs = search needs
 
 returns-2 : tie.Need-returns-2
-returns-2 c time =
-    let a = c .before .before .before .before .before .before .before .before .before .args in
-    own-wrong-lengths (a .connections .now) time (a .c) (a .m .now) (a .random .now) (a .reply .now) (a .relay .now) _ (c .before .before .before .state .ensures) (c .before .before .if1 .left) _ (c .before .are-wrong-lengths .ensures time (a .c)) (c .if2 .taken)
+returns-2 c time reply relay n l =
+    let a = c .before .before .before .before .before .before .before .args in
+    own-wrong-lengths (a .connections .now) time (a .c) (a .m .now) (a .random .now) reply relay _ (c .before .before .before .state .ensures) (c .before .before .if1 .left) _ (c .before .are-wrong-lengths .ensures time (a .c) reply relay n l) (c .if2 .taken)
 
 from-peer-requires : tie.Need-from-peer-requires
 from-peer-requires c κs = search needs
 
 returns-3 : tie.Need-returns-3
-returns-3 c time =
-    let a = c .before .before .before .before .before .before .before .before .before .before .before .args in
-    own-not-from-peer (a .connections .now) time (a .c) (a .m .now) (a .random .now) (a .reply .now) (a .relay .now) _ (c .before .before .before .before .before .state .ensures) (c .before .before .before .before .if1 .left) _ (c .before .before .before .are-wrong-lengths .ensures time (a .c)) (c .before .before .if2 .left) _ (c .before .from-peer .ensures) (c .if3 .taken)
+returns-3 c time reply relay n l =
+    let a = c .before .before .before .before .before .before .before .before .before .args in
+    own-not-from-peer (a .connections .now) time (a .c) (a .m .now) (a .random .now) reply relay _ (c .before .before .before .before .before .state .ensures) (c .before .before .before .before .if1 .left) _ (c .before .before .before .are-wrong-lengths .ensures time (a .c) reply relay n l) (c .before .before .if2 .left) _ (c .before .from-peer .ensures) (c .if3 .taken)
 
 byte-requires : tie.Need-byte-requires
 byte-requires c κs = search needs
@@ -35,22 +35,22 @@ is-permitted-requires : tie.Need-is-permitted-requires
 is-permitted-requires c κs = search needs
 
 returns-4 : tie.Need-returns-4
-returns-4 c time =
-    let a = c .before .before .before .before .before .before .before .before .before .before .before .before .before .before .args in
-    own-not-permitted (a .connections .now) time (a .c) (a .m .now) (a .random .now) (a .reply .now) (a .relay .now) _ (c .before .before .before .before .before .before .before .before .state .ensures) (c .before .before .before .before .before .before .before .if1 .left) _ (c .before .before .before .before .before .before .are-wrong-lengths .ensures time (a .c)) (c .before .before .before .before .before .if2 .left) _ (c .before .before .before .before .from-peer .ensures) (c .before .before .before .if3 .left) _ (c .before .before .byte .ensures) _ (c .before .is-permitted .ensures) (c .if4 .taken)
+returns-4 c time reply relay n l =
+    let a = c .before .before .before .before .before .before .before .before .before .before .before .before .args in
+    own-not-permitted (a .connections .now) time (a .c) (a .m .now) (a .random .now) reply relay _ (c .before .before .before .before .before .before .before .before .state .ensures) (c .before .before .before .before .before .before .before .if1 .left) _ (c .before .before .before .before .before .before .are-wrong-lengths .ensures time (a .c) reply relay n l) (c .before .before .before .before .before .if2 .left) _ (c .before .before .before .before .from-peer .ensures) (c .before .before .before .if3 .left) _ (c .before .before .byte .ensures) _ (c .before .is-permitted .ensures) (c .if4 .taken)
 
 has-no-session-requires : tie.Need-has-no-session-requires
 has-no-session-requires c κs = search needs
 
 returns-5 : tie.Need-returns-5
-returns-5 c time =
-    let a = c .before .before .before .before .before .before .before .before .before .before .before .before .before .before .before .before .args in
-    own-no-session (a .connections .now) time (a .c) (a .m .now) (a .random .now) (a .reply .now) (a .relay .now) _ (c .before .before .before .before .before .before .before .before .before .before .state .ensures) (c .before .before .before .before .before .before .before .before .before .if1 .left) _ (c .before .before .before .before .before .before .before .before .are-wrong-lengths .ensures time (a .c)) (c .before .before .before .before .before .before .before .if2 .left) _ (c .before .before .before .before .before .before .from-peer .ensures) (c .before .before .before .before .before .if3 .left) _ (c .before .before .before .before .byte .ensures) _ (c .before .before .before .is-permitted .ensures) (c .before .before .if4 .left) _ (c .before .has-no-session .ensures) (c .if5 .taken)
+returns-5 c time reply relay n l =
+    let a = c .before .before .before .before .before .before .before .before .before .before .before .before .before .before .args in
+    own-no-session (a .connections .now) time (a .c) (a .m .now) (a .random .now) reply relay _ (c .before .before .before .before .before .before .before .before .before .before .state .ensures) (c .before .before .before .before .before .before .before .before .before .if1 .left) _ (c .before .before .before .before .before .before .before .before .are-wrong-lengths .ensures time (a .c) reply relay n l) (c .before .before .before .before .before .before .before .if2 .left) _ (c .before .before .before .before .before .before .from-peer .ensures) (c .before .before .before .before .before .if3 .left) _ (c .before .before .before .before .byte .ensures) _ (c .before .before .before .is-permitted .ensures) (c .before .before .if4 .left) _ (c .before .has-no-session .ensures) (c .if5 .taken)
 
 returns-6 : tie.Need-returns-6
-returns-6 c time =
-    let a = c .before .before .before .before .before .before .before .before .before .before .before .before .before .before .before .before .args in
-    own-pass (a .connections .now) time (a .c) (a .m .now) (a .random .now) (a .reply .now) (a .relay .now) _ (c .before .before .before .before .before .before .before .before .before .before .state .ensures) (c .before .before .before .before .before .before .before .before .before .if1 .left) _ (c .before .before .before .before .before .before .before .before .are-wrong-lengths .ensures time (a .c)) (c .before .before .before .before .before .before .before .if2 .left) _ (c .before .before .before .before .before .before .from-peer .ensures) (c .before .before .before .before .before .if3 .left) _ (c .before .before .before .before .byte .ensures) _ (c .before .before .before .is-permitted .ensures) (c .before .before .if4 .left) _ (c .before .has-no-session .ensures) (c .if5 .left)
+returns-6 c time reply relay n l =
+    let a = c .before .before .before .before .before .before .before .before .before .before .before .before .before .before .args in
+    own-pass (a .connections .now) time (a .c) (a .m .now) (a .random .now) reply relay _ (c .before .before .before .before .before .before .before .before .before .before .state .ensures) (c .before .before .before .before .before .before .before .before .before .if1 .left) _ (c .before .before .before .before .before .before .before .before .are-wrong-lengths .ensures time (a .c) reply relay n l) (c .before .before .before .before .before .before .before .if2 .left) _ (c .before .before .before .before .before .before .from-peer .ensures) (c .before .before .before .before .before .if3 .left) _ (c .before .before .before .before .byte .ensures) _ (c .before .before .before .is-permitted .ensures) (c .before .before .if4 .left) _ (c .before .has-no-session .ensures) (c .if5 .left)
 
 pub own-refusal-spec : {M : Type 1} → statement M
 own-refusal-spec =

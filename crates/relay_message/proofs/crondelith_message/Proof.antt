@@ -1,5 +1,6 @@
 -- `crondelith_message`: refused, or done.
 use native.Mathlib.Omega.{arith}
+use mathlib.Core.Path.{refl}
 use Rattle.rules.specs.Tables.{lent}
 use Rattle.rules.specs.Calls.{message}
 use Rattle.refusals.proofs.Stops.{call-known}
@@ -24,36 +25,36 @@ same-length-2 c = search needs
 same-length-3 : tie.Need-same-length-3
 same-length-3 c = search needs
 
+returns : tie.Need-returns
+returns c =
+    let a = c .before .before .before .before .before .before .before .before .before .before .before .before .before .args in
+    refused-way (lent (a .connections .now) (a .leases .now) (a .allowances .now)) (message (a .time) (a .connection) (a .m .now) (a .random .now) (a .reply .now) (a .relay .now)) (c .before .before .refusal .result) (c .before .before .refusal .ensures (a .reply .now) (a .relay .now) refl refl) (c .before .if1 .taken) (c .sent-nothing .result) (c .sent-nothing .ensures)
+
+cast-c : tie.Need-cast-c
+cast-c c =
+    let a = c .before .before .before .before .before .before .before .before .before .before .before .before .args in
+    let known = call-known (lent (a .connections .now) (a .leases .now) (a .allowances .now)) (message (a .time) (a .connection) (a .m .now) (a .random .now) (a .reply .now) (a .relay .now)) (c .before .refusal .result) (c .before .refusal .ensures (a .reply .now) (a .relay .now) refl refl) (c .if1 .left) in
+    omega arith
+
+handle-requires : tie.Need-handle-requires
+handle-requires c κs =
+    let a = c .before .before .before .before .before .before .before .before .before .before .before .before .before .before .before .before .before .args in
+    let p = admitted (lent (a .connections .now) (a .leases .now) (a .allowances .now)) (a .time) (a .connection) (a .m .now) (a .random .now) (a .reply .now) (a .relay .now) (c .before .before .before .before .before .before .refusal .result) (c .before .before .before .before .before .before .refusal .ensures (a .reply .now) (a .relay .now) refl refl) (c .before .before .before .before .before .if1 .left) in
+    search needs
+
+settle-requires : tie.Need-settle-requires
+settle-requires c κs =
+    let a = c .before .before .before .before .before .before .before .before .before .before .before .before .before .before .before .before .before .before .before .before .before .before .before .before .before .before .before .args in
+    let k = c .before .before .before .before .before .before .before .before .before .before .before .before .before .before .before .before .refusal .result in
+    let e = c .before .before .before .before .before .before .before .before .before .before .before .before .before .before .before .before .refusal .ensures (a .reply .now) (a .relay .now) refl refl in
+    let z = c .before .before .before .before .before .before .before .before .before .before .before .before .before .before .before .if1 .left in
+    (admitted-length (lent (a .connections .now) (a .leases .now) (a .allowances .now)) (a .time) (a .connection) (a .m .now) (a .random .now) (a .reply .now) (a .relay .now) k e z, admitted-payable (lent (a .connections .now) (a .leases .now) (a .allowances .now)) (a .time) (a .connection) (a .m .now) (a .random .now) (a .reply .now) (a .relay .now) k e z)
+
 same-length-4 : tie.Need-same-length-4
 same-length-4 c = search needs
 
 same-length-5 : tie.Need-same-length-5
 same-length-5 c = search needs
-
-returns : tie.Need-returns
-returns c =
-    let a = c .before .before .before .before .before .before .before .before .before .before .before .before .before .before .before .args in
-    refused-way (lent (a .connections .now) (a .leases .now) (a .allowances .now)) (message (a .time) (a .connection) (a .m .now) (a .random .now) (a .reply .now) (a .relay .now)) (c .before .before .refusal .result) (c .before .before .refusal .ensures) (c .before .if1 .taken) (c .sent-nothing .result) (c .sent-nothing .ensures)
-
-cast-c : tie.Need-cast-c
-cast-c c =
-    let a = c .before .before .before .before .before .before .before .before .before .before .before .before .before .before .args in
-    let known = call-known (lent (a .connections .now) (a .leases .now) (a .allowances .now)) (message (a .time) (a .connection) (a .m .now) (a .random .now) (a .reply .now) (a .relay .now)) (c .before .refusal .result) (c .before .refusal .ensures) (c .if1 .left) in
-    omega arith
-
-handle-requires : tie.Need-handle-requires
-handle-requires c κs =
-    let a = c .before .before .before .before .before .before .before .before .before .before .before .before .before .before .before .before .before .before .before .args in
-    let p = admitted (lent (a .connections .now) (a .leases .now) (a .allowances .now)) (a .time) (a .connection) (a .m .now) (a .random .now) (a .reply .now) (a .relay .now) (c .before .before .before .before .before .before .refusal .result) (c .before .before .before .before .before .before .refusal .ensures) (c .before .before .before .before .before .if1 .left) in
-    search needs
-
-settle-requires : tie.Need-settle-requires
-settle-requires c κs =
-    let a = c .before .before .before .before .before .before .before .before .before .before .before .before .before .before .before .before .before .before .before .before .before .before .before .before .before .before .before .before .before .args in
-    let k = c .before .before .before .before .before .before .before .before .before .before .before .before .before .before .before .before .refusal .result in
-    let e = c .before .before .before .before .before .before .before .before .before .before .before .before .before .before .before .before .refusal .ensures in
-    let z = c .before .before .before .before .before .before .before .before .before .before .before .before .before .before .before .if1 .left in
-    (admitted-length (lent (a .connections .now) (a .leases .now) (a .allowances .now)) (a .time) (a .connection) (a .m .now) (a .random .now) (a .reply .now) (a .relay .now) k e z, admitted-payable (lent (a .connections .now) (a .leases .now) (a .allowances .now)) (a .time) (a .connection) (a .m .now) (a .random .now) (a .reply .now) (a .relay .now) k e z)
 
 same-length-6 : tie.Need-same-length-6
 same-length-6 c = search needs
@@ -64,16 +65,10 @@ same-length-7 c = search needs
 same-length-8 : tie.Need-same-length-8
 same-length-8 c = search needs
 
-same-length-9 : tie.Need-same-length-9
-same-length-9 c = search needs
-
-same-length-10 : tie.Need-same-length-10
-same-length-10 c = search needs
-
 returns-2 : tie.Need-returns-2
 returns-2 c =
-    let a = c .before .before .before .before .before .before .before .before .before .before .before .before .before .before .before .before .before .before .before .before .before .before .before .before .before .before .before .before .before .before .before .before .args in
-    message-way (lent (a .connections .now) (a .leases .now) (a .allowances .now)) (a .time) (a .connection) (a .m .now) (a .random .now) (a .reply .now) (a .relay .now) (c .before .before .before .before .before .before .before .before .before .before .before .before .before .before .before .before .before .before .before .refusal .result) (c .before .before .before .before .before .before .before .before .before .before .before .before .before .before .before .before .before .before .before .refusal .ensures) (c .before .before .before .before .before .before .before .before .before .before .before .before .before .before .before .before .before .before .if1 .left) _ _ _ _ _ (c .before .before .before .before .before .before .before .before .before .before .before .before .handle .result) (c .before .before .before .before .before .before .before .before .before .before .before .before .handle .ensures) (c .before .before .settle .ensures (a .random .now) (a .reply .now) (a .relay .now))
+    let a = c .before .before .before .before .before .before .before .before .before .before .before .before .before .before .before .before .before .before .before .before .before .before .before .before .before .before .before .before .before .before .args in
+    message-way (lent (a .connections .now) (a .leases .now) (a .allowances .now)) (a .time) (a .connection) (a .m .now) (a .random .now) (a .reply .now) (a .relay .now) (c .before .before .before .before .before .before .before .before .before .before .before .before .before .before .before .before .before .before .before .refusal .result) (c .before .before .before .before .before .before .before .before .before .before .before .before .before .before .before .before .before .before .before .refusal .ensures (a .reply .now) (a .relay .now) refl refl) (c .before .before .before .before .before .before .before .before .before .before .before .before .before .before .before .before .before .before .if1 .left) _ _ _ _ _ (c .before .before .before .before .before .before .before .before .before .before .before .before .handle .result) (c .before .before .before .before .before .before .before .before .before .before .before .before .handle .ensures) (c .before .before .settle .ensures (a .random .now) (a .reply .now) (a .relay .now))
 
 pub crondelith-message-spec : {M : Type 1} → statement M
 crondelith-message-spec =
@@ -84,15 +79,13 @@ crondelith-message-spec =
     same-length
     same-length-2
     same-length-3
-    same-length-4
-    same-length-5
     returns
     cast-c
     handle-requires
     settle-requires
+    same-length-4
+    same-length-5
     same-length-6
     same-length-7
     same-length-8
-    same-length-9
-    same-length-10
     returns-2)

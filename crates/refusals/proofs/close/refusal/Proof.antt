@@ -11,13 +11,13 @@ first-three-requires : tie.Need-first-three-requires
 first-three-requires c κs = search needs
 
 returns : tie.Need-returns
-returns c =
-    let a = c .before .before .before .before .before .before .args in
-    three-stop (lent (a .connections .now) (a .leases .now) (a .allowances .now)) (closing (a .time) (a .connection) (a .relay .now)) _ (c .before .first-three .ensures) (c .if1 .taken)
+returns c relay n =
+    let a = c .before .before .before .before .before .args in
+    three-stop (lent (a .connections .now) (a .leases .now) (a .allowances .now)) (closing (a .time) (a .connection) relay) _ (c .before .first-three .ensures) (c .if1 .taken)
 
 cast-c : tie.Need-cast-c
 cast-c c =
-    let a = c .before .before .before .before .before .before .args in
+    let a = c .before .before .before .before .before .args in
     let known = three-known (lent (a .connections .now) (a .leases .now) (a .allowances .now)) (a .time) (a .connection) _ (c .before .first-three .ensures) (c .if1 .left) in
     omega arith
 
@@ -25,19 +25,19 @@ state-requires : tie.Need-state-requires
 state-requires c κs = search needs
 
 returns-2 : tie.Need-returns-2
-returns-2 c =
-    let a = c .before .before .before .before .before .before .before .before .args in
-    close-wrong-state (lent (a .connections .now) (a .leases .now) (a .allowances .now)) (a .time) (a .connection) (a .relay .now) _ _ (c .before .before .before .first-three .ensures) (c .before .before .if1 .left) (c .before .state .ensures) (c .if2 .taken)
+returns-2 c relay n =
+    let a = c .before .before .before .before .before .before .before .args in
+    close-wrong-state (lent (a .connections .now) (a .leases .now) (a .allowances .now)) (a .time) (a .connection) relay _ _ (c .before .before .before .first-three .ensures) (c .before .before .if1 .left) (c .before .state .ensures) (c .if2 .taken)
 
 returns-3 : tie.Need-returns-3
-returns-3 c =
-    let a = c .before .before .before .before .before .before .before .before .before .args in
-    close-wrong-lengths (lent (a .connections .now) (a .leases .now) (a .allowances .now)) (a .time) (a .connection) (a .relay .now) _ _ (c .before .before .before .before .first-three .ensures) (c .before .before .before .if1 .left) (c .before .before .state .ensures) (c .before .if2 .left) (c .if3 .taken)
+returns-3 c relay n =
+    let a = c .before .before .before .before .before .before .before .before .args in
+    close-wrong-lengths (lent (a .connections .now) (a .leases .now) (a .allowances .now)) (a .time) (a .connection) relay _ _ (c .before .before .before .before .first-three .ensures) (c .before .before .before .if1 .left) (c .before .before .state .ensures) (c .before .if2 .left) (rw n (c .if3 .taken))
 
 returns-4 : tie.Need-returns-4
-returns-4 c =
-    let a = c .before .before .before .before .before .before .before .before .before .args in
-    close-passes (lent (a .connections .now) (a .leases .now) (a .allowances .now)) (a .time) (a .connection) (a .relay .now) _ _ (c .before .before .before .before .first-three .ensures) (c .before .before .before .if1 .left) (c .before .before .state .ensures) (c .before .if2 .left) (c .if3 .left)
+returns-4 c relay n =
+    let a = c .before .before .before .before .before .before .before .before .args in
+    close-passes (lent (a .connections .now) (a .leases .now) (a .allowances .now)) (a .time) (a .connection) relay _ _ (c .before .before .before .before .first-three .ensures) (c .before .before .before .if1 .left) (c .before .before .state .ensures) (c .before .if2 .left) (rw n (c .if3 .left))
 
 pub refusal-spec : {M : Type 1} → statement M
 refusal-spec =
