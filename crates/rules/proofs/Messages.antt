@@ -182,6 +182,11 @@ module _ (m : List ℕ) where
       go (suc zero) l e = inr e
       go (suc (suc ok)) l e = absurd (omega arith)
 
+  -- an establish request
+  pub establish-length : fromPeer m ≡ true → typeOf m ≡ 6 → length m ≡ 5
+  unfolding readings
+  establish-length h t = eqb-true (length m) 5 (fits-read 6 (eqb (length m) 5) (EstablishRequest (numberAt m 1 4)) h t refl)
+
   -- Each type that peers send has its form.
   pub by-type : fromPeer m ≡ true → ByType m
   unfolding readings

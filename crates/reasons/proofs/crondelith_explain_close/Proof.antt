@@ -1,0 +1,30 @@
+-- `crondelith_explain_close`: a close is free, and decides nothing.
+use mathlib.Core.Path.{refl, _∙_}
+use Rattle.rules.specs.Tables.{lent}
+use Rattle.rules.specs.Calls.{closing}
+use Rattle.rules.specs.Reasons.{asked}
+use Rattle.reasons.proofs.Ways.{nothing-asked, free-way}
+use borrow.Author.Needs.{needs}
+use Rattle.reasons.proofs.crondelith_explain_close.Statement.{statement}
+use Rattle.reasons.proofs.crondelith_explain_close.Tie as tie
+
+refusal-requires : tie.Need-refusal-requires
+refusal-requires c κs = search needs
+
+nothing-named-requires : tie.Need-nothing-named-requires
+nothing-named-requires c κs = search needs
+
+without-headroom-requires : tie.Need-without-headroom-requires
+without-headroom-requires c κs = search needs
+
+returns : tie.Need-returns
+returns c relay long =
+    let s = c .before .before .before .before .before .before in
+    c .without-headroom .ensures
+    ∙ rw (c .before .nothing-named .ensures)
+    (free-way (lent (s .args .connections .now) (s .args .leases .now) (s .args .allowances .now)) (closing (s .args .time) (s .args .connection) relay) _ (c .before .before .refusal .ensures relay long) refl _
+    (nothing-asked (lent (s .args .connections .now) (s .args .leases .now) (s .args .allowances .now)) (closing (s .args .time) (s .args .connection) relay) (c .before .before .refusal .result) (unfold asked in refl)))
+
+pub crondelith-explain-close-spec : {M : Type 1} → statement M
+crondelith-explain-close-spec =
+    tie.close (tie.spec refusal-requires nothing-named-requires without-headroom-requires returns)

@@ -1,0 +1,77 @@
+-- `crondelith_explain_open`: stopped by one of checks 1 to 8, or charged.
+use native.Mathlib.Omega.{arith}
+use mathlib.Core.Path.{refl, _∙_}
+use lib.ListN.{replicate, length-replicate}
+use Rattle.allowance.proofs.Numbers.{level≤capacity}
+use Rattle.rules.specs.Tables.{lent, bucketOf}
+use Rattle.rules.specs.Calls.{opening}
+use Rattle.rules.specs.Charges.{cost, price, callerLevel}
+use Rattle.rules.specs.Reasons.{asked}
+use Rattle.rules.proofs.Checks.{passed}
+use Rattle.reasons.proofs.Ways.{nothing-asked, first-eight-passed, stopped-way, charged-way}
+use borrow.Author.Needs.{needs}
+use Rattle.reasons.proofs.crondelith_explain_open.Statement.{statement}
+use Rattle.reasons.proofs.crondelith_explain_open.Tie as tie
+
+refusal-requires : tie.Need-refusal-requires
+refusal-requires c κs = search needs
+
+nothing-named-requires : tie.Need-nothing-named-requires
+nothing-named-requires c κs = search needs
+
+without-headroom-requires : tie.Need-without-headroom-requires
+without-headroom-requires c κs = search needs
+
+returns : tie.Need-returns
+returns c reply long =
+    let s = c .before .before .before .before .before .before .before in
+    c .without-headroom .ensures
+    ∙ rw (c .before .before .nothing-named .ensures)
+    (stopped-way (lent (s .args .connections .now) (s .args .leases .now) (s .args .allowances .now)) (opening (s .args .time) (s .args .connection) reply) _ (c .before .before .before .refusal .ensures reply long) (c .before .if1 .taken))
+
+cast-partner-of : tie.Need-cast-partner-of
+cast-partner-of c =
+    let s = c .before .before .before .before .before .before in
+    let e = c .before .before .refusal .ensures (replicate (s .args .reply-length) 0) (length-replicate (s .args .reply-length) 0) in
+    let ok = passed (lent (s .args .connections .now) (s .args .leases .now) (s .args .allowances .now)) (opening (s .args .time) (s .args .connection) (replicate (s .args .reply-length) 0)) (first-eight-passed (lent (s .args .connections .now) (s .args .leases .now) (s .args .allowances .now)) (opening (s .args .time) (s .args .connection) (replicate (s .args .reply-length) 0)) _ e (c .if1 .left)) in
+    omega (arith, ok .known)
+
+partner-of-requires : tie.Need-partner-of-requires
+partner-of-requires c κs = search needs
+
+level-requires : tie.Need-level-requires
+level-requires c κs =
+    let s = c .before .before .before .before .before .before .before in
+    let e = c .before .before .before .refusal .ensures (replicate (s .args .reply-length) 0) (length-replicate (s .args .reply-length) 0) in
+    let ok = passed (lent (s .args .connections .now) (s .args .leases .now) (s .args .allowances .now)) (opening (s .args .time) (s .args .connection) (replicate (s .args .reply-length) 0)) (first-eight-passed (lent (s .args .connections .now) (s .args .leases .now) (s .args .allowances .now)) (opening (s .args .time) (s .args .connection) (replicate (s .args .reply-length) 0)) _ e (c .before .if1 .left)) in
+    (ok .allowances, omega (arith, ok .of-partner))
+
+with-headroom-requires : tie.Need-with-headroom-requires
+with-headroom-requires c κs =
+    let s = c .before .before .before .before .before .before .before .before in
+    omega (arith, level≤capacity (bucketOf (s .args .allowances .now) (c .before .partner-of .result)) (s .args .time), c .level .ensures)
+
+returns-2 : tie.Need-returns-2
+unfolding callerLevel price cost
+returns-2 c reply long =
+    let s = c .before .before .before .before .before .before .before .before .before in
+    let e = c .before .before .before .before .before .refusal .ensures reply long in
+    c .with-headroom .ensures
+    ∙ rw (c .before .before .before .before .nothing-named .ensures)
+    (charged-way (lent (s .args .connections .now) (s .args .leases .now) (s .args .allowances .now)) (opening (s .args .time) (s .args .connection) reply) _ e
+    (first-eight-passed (lent (s .args .connections .now) (s .args .leases .now) (s .args .allowances .now)) (opening (s .args .time) (s .args .connection) reply) _ e (c .before .before .before .if1 .left)) refl _ (nothing-asked (lent (s .args .connections .now) (s .args .leases .now) (s .args .allowances .now)) (opening (s .args .time) (s .args .connection) reply) (c .before .before .before .before .before .refusal .result) (unfold asked in refl)) _ _
+    (c .before .level .ensures ∙ rw (c .before .before .partner-of .ensures)) refl)
+
+pub crondelith-explain-open-spec : {M : Type 1} → statement M
+crondelith-explain-open-spec =
+    tie.close
+    (tie.spec
+    refusal-requires
+    nothing-named-requires
+    without-headroom-requires
+    returns
+    cast-partner-of
+    partner-of-requires
+    level-requires
+    with-headroom-requires
+    returns-2)
