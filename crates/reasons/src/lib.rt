@@ -1,9 +1,11 @@
 // Why a call is answered as it is: the check that stops it, what decided a done lease or establish, and its headroom. These functions
 // only read, and are lent no buffer: of the reply and the relay buffer they are told the lengths.
 ghost use mathlib.Core.Path.{_≡_};
+ghost use mathlib.Core.Bool.{not, _&&_};
 ghost use mathlib.Core.List.{List};
 ghost use mathlib.Core.Option.{none, some};
 ghost use Prim.Native.Nat.{ℕ, _+_, _^_, _<_};
+ghost use lib.Dec.{eqb};
 ghost use lib.IntN.{pos, _-ℤ_};
 ghost use lib.ListN.{length};
 ghost use Rattle.rules.specs.Tables.{lent};
@@ -35,6 +37,13 @@ pub const ESTABLISH: u32 = 2;
 pub struct Named {
     pub request: u32,
     pub condition: u32,
+}
+
+// Whether one of checks 1 to 8 stops a call that is answered with this number.
+fn is_stopped(check: u32) -> bool
+    ensures { λ r. ⌜ r ≡ (not (eqb check 0) && not (eqb check 9)) ⌝ }
+{
+    (check != 0) & (check != 9)
 }
 
 // Nothing has been decided.
@@ -132,7 +141,7 @@ pub extern "C" fn crondelith_explain_open(
         reply_length as usize,
     );
     let nothing = nothing_named();
-    if (check != 0) & (check != 9) {
+    if is_stopped(check) {
         return without_headroom(check, nothing);
     }
     let partner = lease_table::partner_of(connection as u8);
@@ -167,7 +176,7 @@ pub extern "C" fn crondelith_explain_message(
         reply_length as usize,
         relay_length as usize,
     );
-    if (check != 0) & (check != 9) {
+    if is_stopped(check) {
         return without_headroom(check, nothing_named());
     }
     judged(

@@ -20,10 +20,12 @@ without-headroom-requires c κs = search needs
 returns : tie.Need-returns
 returns c relay long =
     let s = c .before .before .before .before .before .before in
+    let tables = lent (s .args .connections .now) (s .args .leases .now) (s .args .allowances .now) in
+    let call = closing (s .args .time) (s .args .connection) relay in
     c .without-headroom .ensures
     ∙ rw (c .before .nothing-named .ensures)
-    (free-way (lent (s .args .connections .now) (s .args .leases .now) (s .args .allowances .now)) (closing (s .args .time) (s .args .connection) relay) _ (c .before .before .refusal .ensures relay long) refl _
-    (nothing-asked (lent (s .args .connections .now) (s .args .leases .now) (s .args .allowances .now)) (closing (s .args .time) (s .args .connection) relay) (c .before .before .refusal .result) (unfold asked in refl)))
+    (free-way tables call _ (c .before .before .refusal .ensures relay long) refl _
+    (nothing-asked tables call (c .before .before .refusal .result) (unfold asked in refl)))
 
 pub crondelith-explain-close-spec : {M : Type 1} → statement M
 crondelith-explain-close-spec =

@@ -1,6 +1,6 @@
 -- `crondelith_explain_message`: stopped by one of checks 1 to 8, or judged.
 use native.Mathlib.Omega.{arith}
-use mathlib.Core.Path.{_∙_}
+use mathlib.Core.Path.{sym, _∙_}
 use lib.ListN.{replicate, length-replicate}
 use Rattle.rules.specs.Tables.{lent}
 use Rattle.rules.specs.Calls.{message}
@@ -13,6 +13,9 @@ use Rattle.reasons.proofs.crondelith_explain_message.Tie as tie
 refusal-requires : tie.Need-refusal-requires
 refusal-requires c κs = search needs
 
+is-stopped-requires : tie.Need-is-stopped-requires
+is-stopped-requires c κs = search needs
+
 nothing-named-requires : tie.Need-nothing-named-requires
 nothing-named-requires c κs = search needs
 
@@ -21,43 +24,52 @@ without-headroom-requires c κs = search needs
 
 returns : tie.Need-returns
 returns c reply relay long long2 =
-    let s = c .before .before .before .before .before .before .before .before .before in
+    let s = c .before .before .before .before .before .before .before .before .before .before in
+    let tables = lent (s .args .connections .now) (s .args .leases .now) (s .args .allowances .now) in
+    let call = message (s .args .time) (s .args .connection) (s .args .m .now) (s .args .random .now) reply relay in
     c .without-headroom .ensures
-    ∙ rw (c .before .nothing-named .ensures) (stopped-way (lent (s .args .connections .now) (s .args .leases .now) (s .args .allowances .now)) (message (s .args .time) (s .args .connection) (s .args .m .now) (s .args .random .now) reply relay) _ (c .before .before .before .refusal .ensures reply relay long long2) (c .before .before .if1 .taken))
+    ∙ rw (c .before .nothing-named .ensures) (stopped-way tables call _ (c .before .before .before .before .refusal .ensures reply relay long long2) (sym (c .before .before .before .is-stopped .ensures) ∙ c .before .before .if1 .taken))
 
 cast-judged : tie.Need-cast-judged
 cast-judged c =
-    let s = c .before .before .before .before .before .before .before in
-    let e = c .before .refusal .ensures (replicate (s .args .reply-length) 0) (replicate (s .args .relay-length) 0) (length-replicate (s .args .reply-length) 0) (length-replicate (s .args .relay-length) 0) in
-    let h = first-eight-passed (lent (s .args .connections .now) (s .args .leases .now) (s .args .allowances .now)) (message (s .args .time) (s .args .connection) (s .args .m .now) (s .args .random .now) (replicate (s .args .reply-length) 0) (replicate (s .args .relay-length) 0)) _ e (c .if1 .left) in
-    omega (arith, passed (lent (s .args .connections .now) (s .args .leases .now) (s .args .allowances .now)) (message (s .args .time) (s .args .connection) (s .args .m .now) (s .args .random .now) (replicate (s .args .reply-length) 0) (replicate (s .args .relay-length) 0)) h .known)
+    let s = c .before .before .before .before .before .before .before .before in
+    let tables = lent (s .args .connections .now) (s .args .leases .now) (s .args .allowances .now) in
+    let call = message (s .args .time) (s .args .connection) (s .args .m .now) (s .args .random .now) (replicate (s .args .reply-length) 0) (replicate (s .args .relay-length) 0) in
+    let e = c .before .before .refusal .ensures (replicate (s .args .reply-length) 0) (replicate (s .args .relay-length) 0) (length-replicate (s .args .reply-length) 0) (length-replicate (s .args .relay-length) 0) in
+    let h = first-eight-passed tables call _ e (sym (c .before .is-stopped .ensures) ∙ c .if1 .left) in
+    omega (arith, passed tables call h .known)
 
 judged-requires : tie.Need-judged-requires
 judged-requires c κs =
-    let s = c .before .before .before .before .before .before .before in
-    let e = c .before .refusal .ensures (replicate (s .args .reply-length) 0) (replicate (s .args .relay-length) 0) (length-replicate (s .args .reply-length) 0) (length-replicate (s .args .relay-length) 0) in
-    let h = first-eight-passed (lent (s .args .connections .now) (s .args .leases .now) (s .args .allowances .now)) (message (s .args .time) (s .args .connection) (s .args .m .now) (s .args .random .now) (replicate (s .args .reply-length) 0) (replicate (s .args .relay-length) 0)) _ e (c .if1 .left) in
-    let ok = passed (lent (s .args .connections .now) (s .args .leases .now) (s .args .allowances .now)) (message (s .args .time) (s .args .connection) (s .args .m .now) (s .args .random .now) (replicate (s .args .reply-length) 0) (replicate (s .args .relay-length) 0)) h in (
+    let s = c .before .before .before .before .before .before .before .before in
+    let tables = lent (s .args .connections .now) (s .args .leases .now) (s .args .allowances .now) in
+    let call = message (s .args .time) (s .args .connection) (s .args .m .now) (s .args .random .now) (replicate (s .args .reply-length) 0) (replicate (s .args .relay-length) 0) in
+    let e = c .before .before .refusal .ensures (replicate (s .args .reply-length) 0) (replicate (s .args .relay-length) 0) (length-replicate (s .args .reply-length) 0) (length-replicate (s .args .relay-length) 0) in
+    let h = first-eight-passed tables call _ e (sym (c .before .is-stopped .ensures) ∙ c .if1 .left) in
+    let ok = passed tables call h in (
       record {
         leases = ok .leases;
         known = ok .known;
-        random-size = random-length (lent (s .args .connections .now) (s .args .leases .now) (s .args .allowances .now)) (s .args .time) (s .args .connection) (s .args .m .now) (s .args .random .now) (replicate (s .args .reply-length) 0) (replicate (s .args .relay-length) 0) h;
-        from-peer = from-peer (lent (s .args .connections .now) (s .args .leases .now) (s .args .allowances .now)) (s .args .time) (s .args .connection) (s .args .m .now) (s .args .random .now) (replicate (s .args .reply-length) 0) (replicate (s .args .relay-length) 0) h;
+        random-size = random-length tables (s .args .time) (s .args .connection) (s .args .m .now) (s .args .random .now) (replicate (s .args .reply-length) 0) (replicate (s .args .relay-length) 0) h;
+        from-peer = from-peer tables (s .args .time) (s .args .connection) (s .args .m .now) (s .args .random .now) (replicate (s .args .reply-length) 0) (replicate (s .args .relay-length) 0) h;
       },
       ok .allowances,
     )
 
 returns-2 : tie.Need-returns-2
 returns-2 c reply relay long long2 =
-    let s = c .before .before .before .before .before .before .before .before in
-    let e = c .before .before .refusal .ensures reply relay long long2 in
-    c .judged .ensures reply relay e (first-eight-passed (lent (s .args .connections .now) (s .args .leases .now) (s .args .allowances .now)) (message (s .args .time) (s .args .connection) (s .args .m .now) (s .args .random .now) reply relay) _ e (c .before .if1 .left))
+    let s = c .before .before .before .before .before .before .before .before .before in
+    let tables = lent (s .args .connections .now) (s .args .leases .now) (s .args .allowances .now) in
+    let call = message (s .args .time) (s .args .connection) (s .args .m .now) (s .args .random .now) reply relay in
+    let e = c .before .before .before .refusal .ensures reply relay long long2 in
+    c .judged .ensures reply relay e (first-eight-passed tables call _ e (sym (c .before .before .is-stopped .ensures) ∙ c .before .if1 .left))
 
 pub crondelith-explain-message-spec : {M : Type 1} → statement M
 crondelith-explain-message-spec =
     tie.close
     (tie.spec
     refusal-requires
+    is-stopped-requires
     nothing-named-requires
     without-headroom-requires
     returns

@@ -1,6 +1,6 @@
 -- `crondelith_explain_open`: stopped by one of checks 1 to 8, or charged.
 use native.Mathlib.Omega.{arith}
-use mathlib.Core.Path.{refl, _∙_}
+use mathlib.Core.Path.{refl, sym, _∙_}
 use lib.ListN.{replicate, length-replicate}
 use Rattle.allowance.proofs.Numbers.{level≤capacity}
 use Rattle.rules.specs.Tables.{lent, bucketOf}
@@ -19,21 +19,28 @@ refusal-requires c κs = search needs
 nothing-named-requires : tie.Need-nothing-named-requires
 nothing-named-requires c κs = search needs
 
+is-stopped-requires : tie.Need-is-stopped-requires
+is-stopped-requires c κs = search needs
+
 without-headroom-requires : tie.Need-without-headroom-requires
 without-headroom-requires c κs = search needs
 
 returns : tie.Need-returns
 returns c reply long =
-    let s = c .before .before .before .before .before .before .before in
+    let s = c .before .before .before .before .before .before .before .before in
+    let tables = lent (s .args .connections .now) (s .args .leases .now) (s .args .allowances .now) in
+    let call = opening (s .args .time) (s .args .connection) reply in
     c .without-headroom .ensures
-    ∙ rw (c .before .before .nothing-named .ensures)
-    (stopped-way (lent (s .args .connections .now) (s .args .leases .now) (s .args .allowances .now)) (opening (s .args .time) (s .args .connection) reply) _ (c .before .before .before .refusal .ensures reply long) (c .before .if1 .taken))
+    ∙ rw (c .before .before .before .nothing-named .ensures)
+    (stopped-way tables call _ (c .before .before .before .before .refusal .ensures reply long) (sym (c .before .before .is-stopped .ensures) ∙ c .before .if1 .taken))
 
 cast-partner-of : tie.Need-cast-partner-of
 cast-partner-of c =
-    let s = c .before .before .before .before .before .before in
-    let e = c .before .before .refusal .ensures (replicate (s .args .reply-length) 0) (length-replicate (s .args .reply-length) 0) in
-    let ok = passed (lent (s .args .connections .now) (s .args .leases .now) (s .args .allowances .now)) (opening (s .args .time) (s .args .connection) (replicate (s .args .reply-length) 0)) (first-eight-passed (lent (s .args .connections .now) (s .args .leases .now) (s .args .allowances .now)) (opening (s .args .time) (s .args .connection) (replicate (s .args .reply-length) 0)) _ e (c .if1 .left)) in
+    let s = c .before .before .before .before .before .before .before in
+    let tables = lent (s .args .connections .now) (s .args .leases .now) (s .args .allowances .now) in
+    let call = opening (s .args .time) (s .args .connection) (replicate (s .args .reply-length) 0) in
+    let e = c .before .before .before .refusal .ensures (replicate (s .args .reply-length) 0) (length-replicate (s .args .reply-length) 0) in
+    let ok = passed tables call (first-eight-passed tables call _ e (sym (c .before .is-stopped .ensures) ∙ c .if1 .left)) in
     omega (arith, ok .known)
 
 partner-of-requires : tie.Need-partner-of-requires
@@ -41,25 +48,29 @@ partner-of-requires c κs = search needs
 
 level-requires : tie.Need-level-requires
 level-requires c κs =
-    let s = c .before .before .before .before .before .before .before in
-    let e = c .before .before .before .refusal .ensures (replicate (s .args .reply-length) 0) (length-replicate (s .args .reply-length) 0) in
-    let ok = passed (lent (s .args .connections .now) (s .args .leases .now) (s .args .allowances .now)) (opening (s .args .time) (s .args .connection) (replicate (s .args .reply-length) 0)) (first-eight-passed (lent (s .args .connections .now) (s .args .leases .now) (s .args .allowances .now)) (opening (s .args .time) (s .args .connection) (replicate (s .args .reply-length) 0)) _ e (c .before .if1 .left)) in
+    let s = c .before .before .before .before .before .before .before .before in
+    let tables = lent (s .args .connections .now) (s .args .leases .now) (s .args .allowances .now) in
+    let call = opening (s .args .time) (s .args .connection) (replicate (s .args .reply-length) 0) in
+    let e = c .before .before .before .before .refusal .ensures (replicate (s .args .reply-length) 0) (length-replicate (s .args .reply-length) 0) in
+    let ok = passed tables call (first-eight-passed tables call _ e (sym (c .before .before .is-stopped .ensures) ∙ c .before .if1 .left)) in
     (ok .allowances, omega (arith, ok .of-partner))
 
 with-headroom-requires : tie.Need-with-headroom-requires
 with-headroom-requires c κs =
-    let s = c .before .before .before .before .before .before .before .before in
+    let s = c .before .before .before .before .before .before .before .before .before in
     omega (arith, level≤capacity (bucketOf (s .args .allowances .now) (c .before .partner-of .result)) (s .args .time), c .level .ensures)
 
 returns-2 : tie.Need-returns-2
 unfolding callerLevel price cost
 returns-2 c reply long =
-    let s = c .before .before .before .before .before .before .before .before .before in
-    let e = c .before .before .before .before .before .refusal .ensures reply long in
+    let s = c .before .before .before .before .before .before .before .before .before .before in
+    let tables = lent (s .args .connections .now) (s .args .leases .now) (s .args .allowances .now) in
+    let call = opening (s .args .time) (s .args .connection) reply in
+    let e = c .before .before .before .before .before .before .refusal .ensures reply long in
     c .with-headroom .ensures
-    ∙ rw (c .before .before .before .before .nothing-named .ensures)
-    (charged-way (lent (s .args .connections .now) (s .args .leases .now) (s .args .allowances .now)) (opening (s .args .time) (s .args .connection) reply) _ e
-    (first-eight-passed (lent (s .args .connections .now) (s .args .leases .now) (s .args .allowances .now)) (opening (s .args .time) (s .args .connection) reply) _ e (c .before .before .before .if1 .left)) refl _ (nothing-asked (lent (s .args .connections .now) (s .args .leases .now) (s .args .allowances .now)) (opening (s .args .time) (s .args .connection) reply) (c .before .before .before .before .before .refusal .result) (unfold asked in refl)) _ _
+    ∙ rw (c .before .before .before .before .before .nothing-named .ensures)
+    (charged-way tables call _ e
+    (first-eight-passed tables call _ e (sym (c .before .before .before .before .is-stopped .ensures) ∙ c .before .before .before .if1 .left)) refl _ (nothing-asked tables call (c .before .before .before .before .before .before .refusal .result) (unfold asked in refl)) _ _
     (c .before .level .ensures ∙ rw (c .before .before .partner-of .ensures)) refl)
 
 pub crondelith-explain-open-spec : {M : Type 1} → statement M
@@ -68,6 +79,7 @@ crondelith-explain-open-spec =
     (tie.spec
     refusal-requires
     nothing-named-requires
+    is-stopped-requires
     without-headroom-requires
     returns
     cast-partner-of

@@ -24,8 +24,10 @@ without-headroom-requires c κs = search needs
 returns : tie.Need-returns
 returns c reply relay e h =
     let s = c .before .before .before .before .before .before .before .before .before in
+    let tables = lent (s .args .connections .now) (s .args .leases .now) (s .args .allowances .now) in
+    let call = message (s .args .time) (s .args .c) (s .args .m .now) (s .args .random .now) reply relay in
     c .without-headroom .ensures
-    ∙ free-way (lent (s .args .connections .now) (s .args .leases .now) (s .args .allowances .now)) (message (s .args .time) (s .args .c) (s .args .m .now) (s .args .random .now) reply relay) _ e (message-free (s .args .time) (s .args .c) (s .args .m .now) (s .args .random .now) reply relay _ (c .before .before .byte .ensures) (c .before .if1 .taken)) _
+    ∙ free-way tables call _ e (message-free (s .args .time) (s .args .c) (s .args .m .now) (s .args .random .now) reply relay _ (c .before .before .byte .ensures) (c .before .if1 .taken)) _
     (c .before .before .before .decided .ensures (s .args .allowances .now) reply relay)
 
 partner-of-requires : tie.Need-partner-of-requires
@@ -53,8 +55,10 @@ returns-2 : tie.Need-returns-2
 unfolding callerLevel price
 returns-2 c reply relay e h =
     let s = c .before .before .before .before .before .before .before .before .before .before .before .before in
+    let tables = lent (s .args .connections .now) (s .args .leases .now) (s .args .allowances .now) in
+    let call = message (s .args .time) (s .args .c) (s .args .m .now) (s .args .random .now) reply relay in
     c .with-headroom .ensures
-    ∙ charged-way (lent (s .args .connections .now) (s .args .leases .now) (s .args .allowances .now)) (message (s .args .time) (s .args .c) (s .args .m .now) (s .args .random .now) reply relay) _ e h (message-charged (s .args .time) (s .args .c) (s .args .m .now) (s .args .random .now) reply relay _ (c .before .before .before .before .before .byte .ensures) (c .before .before .before .before .if1 .left)) _
+    ∙ charged-way tables call _ e h (message-charged (s .args .time) (s .args .c) (s .args .m .now) (s .args .random .now) reply relay _ (c .before .before .before .before .before .byte .ensures) (c .before .before .before .before .if1 .left)) _
     (c .before .before .before .before .before .before .decided .ensures (s .args .allowances .now) reply relay)
     _
     _
