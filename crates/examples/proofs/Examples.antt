@@ -2,6 +2,7 @@
 use mathlib.Core.Path.{_≡_, refl}
 use mathlib.Core.List.{[], _∷_}
 use Rattle.examples.specs.Examples.{Holds, numbers, examples, order}
+use Rattle.examples.specs.Explained.{Told, explained}
 
 pub worked-examples : Holds examples
 unfolding examples
@@ -20,3 +21,8 @@ checks-in-order = refl
 pub all-pairs : numbers order ≡ 1 ∷ 2 ∷ 3 ∷ 4 ∷ 5 ∷ 6 ∷ 7 ∷ 8 ∷ []
 unfolding order
 all-pairs = refl
+
+-- Reasons, worked out by hand.
+pub reasons-told : Told explained
+unfolding explained
+reasons-told = refl
