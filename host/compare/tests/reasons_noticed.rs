@@ -5,11 +5,12 @@ use compare::reasons::boundary::Explain;
 use compare::reasons::{agree, truth};
 use compare::relay::boundary::{Call, Kind, Lent, Second};
 use compare::relay::calls::Calls;
+use compare::relay::runs::decoded;
 use compare::relay::single;
 use compare::relay::spoiled::SPOILED_BYTES;
 use compare::{amount, forms};
 use engine::reasons::{Reason, LEASE};
-use model::{partner_of, Lease, Relay, State, Tables, LEVEL_LIMIT, TIME_LIMIT};
+use model::{partner_of, Lease, RandomBytes, Relay, State, Tables, LEVEL_LIMIT, TIME_LIMIT};
 
 /// Explains as the second implementation does, and then spoils something.
 #[derive(Clone, Copy)]
@@ -60,7 +61,7 @@ const SPOILED_REASONS: [fn(&mut Reason); 17] = [
     // A lease that can't be paid is decided all the same.
     |reason| {
         if reason.check == 9 {
-            reason.request = 1;
+            reason.request = LEASE;
         }
     },
 ];
@@ -70,13 +71,6 @@ const SPOILED_REASONS: [fn(&mut Reason); 17] = [
 fn scenes() -> Vec<(Tables, Call)> {
     let open = |connection| Kind::Open { connection, reply: 64 };
     let close = |connection| Kind::Close { connection, relay: 64 };
-    let message = |connection, bytes: &[u8]| Kind::Message {
-        connection,
-        message: bytes.to_vec(),
-        random: vec![9; 80],
-        reply: 64,
-        relay: 64,
-    };
     let (lease, establish) = ([2, 0], [6, 0, 0, 0, 1]);
     let calls = [
         (LEVEL_LIMIT, open(4)),
@@ -94,6 +88,10 @@ fn scenes() -> Vec<(Tables, Call)> {
         (0, close(4)),
     ];
     calls.map(|(level, kind)| (tables_at(level), Call { now: 100, kind })).into()
+}
+
+fn message(connection: u64, bytes: &[u8]) -> Kind {
+    Kind::Message { connection, message: bytes.to_vec(), random: vec![9; 80], reply: 64, relay: 64 }
 }
 
 fn tables_at(level: u64) -> Tables {
@@ -135,8 +133,7 @@ fn a_wrong_reason() {
 
 #[test]
 fn a_wrong_byte_of_anything_lent() {
-    let keepalive = Kind::Message { connection: 3, message: vec![13], random: vec![9; 80], reply: 64, relay: 64 };
-    let call = Call { now: 100, kind: keepalive };
+    let call = Call { now: 100, kind: message(3, &[13]) };
     for lent in SPOILED_BYTES {
         assert!(agree::explain(&Spoiled { lent, ..UNSPOILED }, &tables_at(33), &call).is_err());
     }
@@ -234,6 +231,22 @@ fn name_back(relay: &mut Relay, call: &Call) {
     }
 }
 
+/// Names the last condition of a lease that fails, and not the first.
+struct LastCondition;
+
+impl Explain for LastCondition {
+    fn explain(&self, call: &Call, lent: &mut Lent) -> Reason {
+        let mut reason = Second.explain(call, lent);
+        if reason.request == LEASE {
+            let relay = decoded(&lent.tables());
+            let random = RandomBytes::new(lent.random.lend()).expect("a done lease");
+            let offer = relay.offer(call.caller().expect("a done lease"), random, call.now);
+            reason.condition = offer.failed().last().map_or(0, |condition| condition as u32);
+        }
+        reason
+    }
+}
+
 /// Explains single calls, as many as the compiled functions do, until a reason is wrong.
 fn explain_calls(subject: &impl Explain) -> Result<(), Difference> {
     let mut random = amount::random();
@@ -250,4 +263,5 @@ fn what_is_overlooked() {
     for (what, overlook) in OVERLOOKED {
         explain_calls(&Overlooking(overlook)).expect_err(what);
     }
+    explain_calls(&LastCondition).expect_err("which condition is the first");
 }

@@ -21,7 +21,8 @@ pub fn check(relay: &impl Boundary, tables: &Tables, call: &Call, reason: &Reaso
     Ok(outcome)
 }
 
-/// A done lease is replied to with type 3 and whether it is accepted, an establish with type 7 and the status in byte 5.
+/// The reply to a done lease is of type 3 and says whether it is accepted, that to an establish of type 7, with the status
+/// in byte 5.
 fn check_decision(described: impl Fn() -> String, reason: &Reason, reply: &[u8]) -> Result<(), Difference> {
     let Reason { request, condition, .. } = *reason;
     match *reply {
