@@ -5,7 +5,7 @@ use model::Tables;
 
 use crate::guarded::Guarded;
 
-/// No buffer is lent that is longer.
+/// No buffer is lent that is longer; every message is shorter.
 const LONGEST_BUFFER: usize = 70_000;
 
 /// A call, with all that it brings but the tables. Of buffers that are only written it has the lengths.
