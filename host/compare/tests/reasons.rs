@@ -4,7 +4,6 @@
 use compare::difference::Difference;
 use compare::reasons::reached::Reached;
 use compare::reasons::{agree, truth};
-use compare::relay::agree::Outcome;
 use compare::relay::boundary::{Call, Proved};
 use compare::relay::calls::Calls;
 use compare::relay::runs::{decoded, Run};
@@ -13,7 +12,7 @@ use compare::{amount, forms};
 use model::Tables;
 
 const CALLS: u64 = 72_000;
-const RUNS: u64 = 60;
+const RUNS: u64 = 120;
 const CALLS_OF_EACH: usize = 500;
 
 #[test]
@@ -24,7 +23,7 @@ fn calls_on_tables_from_anywhere() -> Result<(), Difference> {
     let mut calls = Calls { random: &mut random, pool: &pool };
     single::calls(&mut calls, amount::rounds(CALLS), |calls, tables, mut call| {
         calls.lengthen(&mut call);
-        explain_and_make(&mut reached, tables, &call).map(drop)
+        explain_and_make(&mut reached, tables, &call)
     })?;
     reached.assert_all();
     Ok(())
@@ -43,24 +42,23 @@ fn calls_of_runs() -> Result<(), Difference> {
     Ok(())
 }
 
-/// Explains each call of a run as it comes, and once more with other levels, sizes and lengths.
+/// Explains each call of a run before it is made, at times with another level, size or length than the run has.
 fn explain_run(calls: &mut Calls, reached: &mut Reached) -> Result<(), Difference> {
     let run = Run::any(calls);
     let (start, anything) = run.start(calls);
     let mut tables = relay::agree::call(&Proved, &anything, &start)?.lent.tables();
     for _ in 0..CALLS_OF_EACH {
-        let mut call = run.next(calls, &decoded(&tables));
-        let outcome = explain_and_make(reached, &tables, &call)?;
-        let varied = calls.varied(&tables, &call);
-        calls.lengthen(&mut call);
-        explain_and_make(reached, &varied, &call)?;
-        tables = outcome.lent.tables();
+        let call = run.next(calls, &decoded(&tables));
+        let (varied, mut explained) = (calls.varied(&tables, &call), call.clone());
+        calls.lengthen(&mut explained);
+        explain_and_make(reached, &varied, &explained)?;
+        tables = relay::agree::call(&Proved, &tables, &call)?.lent.tables();
     }
     Ok(())
 }
 
-/// What the relay does, which the reason must foretell.
-fn explain_and_make(reached: &mut Reached, tables: &Tables, call: &Call) -> Result<Outcome, Difference> {
+/// The reason must be that of the second implementation, and tell what the relay then does.
+fn explain_and_make(reached: &mut Reached, tables: &Tables, call: &Call) -> Result<(), Difference> {
     let reason = agree::explain(&Proved, tables, call)?;
     reached.count(call, &reason);
     truth::check(&Proved, tables, call, &reason)

@@ -9,7 +9,7 @@ use crate::relay::boundary::{Boundary, Call};
 use crate::relay::runs::decoded;
 
 /// Makes the call of the relay on copies of the tables, and compares what it does with the reason.
-pub fn check(relay: &impl Boundary, tables: &Tables, call: &Call, reason: &Reason) -> Result<Outcome, Difference> {
+pub fn check(relay: &impl Boundary, tables: &Tables, call: &Call, reason: &Reason) -> Result<(), Difference> {
     let outcome = agree::call(relay, tables, call)?;
     let described = || format!("{reason:?} of {}", describe(call, tables));
     same(described, &reason.check, &outcome.answer.number)?;
@@ -18,7 +18,7 @@ pub fn check(relay: &impl Boundary, tables: &Tables, call: &Call, reason: &Reaso
     if reason.check == 9 {
         check_shortfall(relay, tables, call, reason.headroom)?;
     }
-    Ok(outcome)
+    Ok(())
 }
 
 /// The reply to a done lease is of type 3 and says whether it is accepted, that to an establish of type 7, with the status
