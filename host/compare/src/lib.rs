@@ -1,6 +1,7 @@
 //! What the comparison tests share. The proved codec and the second implementation answer behind one trait,
 //! [`Boundary`](boundary::Boundary), in the numbers of include/svsc.h; [`agree`] makes the same call of both and names
-//! the first difference. [`relay`] has the same for the relay and include/crondelith.h.
+//! the first difference. [`relay`] has the same for the relay and include/crondelith.h, [`reasons`] for the functions
+//! there that explain a call.
 
 pub mod agree;
 pub mod amount;
@@ -9,5 +10,6 @@ pub mod difference;
 pub mod forms;
 pub mod guarded;
 pub mod random;
+pub mod reasons;
 pub mod relay;
 pub mod tally;

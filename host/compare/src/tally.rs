@@ -23,6 +23,15 @@ impl Tally {
         Ok(())
     }
 
+    /// Asserts that each name got these answers, and none besides.
+    pub fn assert_just(&self, answers: &[(&str, &[u32])]) {
+        for (name, reached) in answers {
+            for number in 0..=9 {
+                self.assert_reached(name, number, reached.contains(&number));
+            }
+        }
+    }
+
     /// Asserts that the name got this answer at least once, or, if that is expected, never.
     pub fn assert_reached(&self, name: &str, number: u32, expected: bool) {
         let reached = self.0.get(name).is_some_and(|answers| answers.contains_key(&number));

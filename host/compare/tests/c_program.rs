@@ -13,6 +13,11 @@ fn the_relay_s_header_and_archive_serve_a_c_program() {
     compile_and_run("crondelith_check", engine::relay::ARCHIVE);
 }
 
+#[test]
+fn the_explanations_header_and_archive_serve_a_c_program() {
+    compile_and_run("crondelith_reasons_check", engine::reasons::ARCHIVE);
+}
+
 fn compile_and_run(name: &str, archive: &str) {
     let host = Path::new(env!("CARGO_MANIFEST_DIR")).join("..");
     let program = Path::new(env!("CARGO_TARGET_TMPDIR")).join(name);

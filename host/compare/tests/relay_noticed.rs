@@ -1,8 +1,8 @@
 //! The comparison of the relays can fail: each wrong answer and each wrong byte is noticed, and the right ones aren't.
 
-use compare::guarded::Guarded;
 use compare::relay::agree;
 use compare::relay::boundary::{Boundary, Call, Kind, Lent, Second};
+use compare::relay::spoiled::SPOILED_BYTES;
 use engine::relay::Answer;
 use model::{Relay, Tables};
 
@@ -22,31 +22,6 @@ const SPOILED_ANSWERS: [fn(&mut Answer); 5] = [
     |answer| answer.destination ^= 1,
     |answer| answer.disconnect ^= 1,
 ];
-
-const SPOILED_BYTES: [fn(&mut Lent); 14] = [
-    |lent| first(&mut lent.connections),
-    |lent| last(&mut lent.connections),
-    |lent| first(&mut lent.leases),
-    |lent| last(&mut lent.leases),
-    |lent| first(&mut lent.allowances),
-    |lent| last(&mut lent.allowances),
-    |lent| first(&mut lent.message),
-    |lent| last(&mut lent.message),
-    |lent| first(&mut lent.random),
-    |lent| last(&mut lent.random),
-    |lent| first(&mut lent.reply),
-    |lent| last(&mut lent.reply),
-    |lent| first(&mut lent.relay),
-    |lent| last(&mut lent.relay),
-];
-
-fn first(buffer: &mut Guarded) {
-    buffer.lend_mut()[0] ^= 1;
-}
-
-fn last(buffer: &mut Guarded) {
-    *buffer.lend_mut().last_mut().expect("a buffer with room") ^= 1;
-}
 
 impl Boundary for Spoiled {
     fn call(&self, call: &Call, lent: &mut Lent) -> Answer {

@@ -25,7 +25,7 @@ pub struct Reason {
 pub const LEASE: u32 = 1;
 pub const ESTABLISH: u32 = 2;
 
-// host/c/crondelith_check.c has the same numbers about the header's struct.
+// host/c/crondelith_reasons_check.c has the same numbers about the header's struct.
 const _: () = assert!(size_of::<Reason>() == 24 && align_of::<Reason>() == 8 && offset_of!(Reason, headroom) == 16);
 
 /// The three tables, to be read. Another length than the table's is what check 1 stops.

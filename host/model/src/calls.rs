@@ -1,28 +1,13 @@
-//! The four calls. Each acts on a decoded copy of the tables, check by check, so that one refused alters no byte.
+//! The four calls. Each is checked first and then acts on a decoded copy of the tables, so that one refused alters no
+//! byte.
 
 use codec::{encode, Message};
 
-use crate::records::{Connection, Session, State};
-use crate::relay::{partner_of, Relay, Tables, CONNECTIONS};
-use crate::requests::{cost, RandomBytes, Request, BASE_COST};
+use crate::checks::{check, Action, Call, Kind, Passed, Refusal};
+use crate::records::{Allowance, Connection, Session, State};
+use crate::relay::{partner_of, Relay, Tables};
+use crate::requests::{RandomBytes, Request};
 use crate::{NOBODY, TIME_LIMIT};
-
-/// The least reply buffer, and the least relay buffer.
-const BUFFER: usize = 64;
-
-/// The checks, in their order.
-#[derive(Clone, Copy, Debug, PartialEq, Eq)]
-pub enum Refusal {
-    TableSize = 1,
-    Time = 2,
-    NoSuchConnection = 3,
-    WrongState = 4,
-    Buffers = 5,
-    NotFromPeers = 6,
-    NotPermitted = 7,
-    NoSession = 8,
-    Allowance = 9,
-}
 
 #[derive(Clone, Copy, Debug, PartialEq, Eq)]
 pub struct Answer {
@@ -80,8 +65,8 @@ pub fn fresh(tables: &mut Tables, now: u64) -> Answer {
 
 /// Opens a connection.
 pub fn open(tables: &mut Tables, now: u64, connection: u64, reply: &mut [u8]) -> Answer {
-    let done = attempt(tables, now, |relay| relay.open(now, connection, reply.len()));
-    deliver(done, reply, &mut [])
+    let kind = Kind::Open { reply_length: reply.len() as u64 };
+    deliver(attempt(tables, Call { now, connection, kind }), reply, &mut [])
 }
 
 /// Takes a message from a connection.
@@ -94,27 +79,23 @@ pub fn message(
     reply: &mut [u8],
     relay: &mut [u8],
 ) -> Answer {
-    let rooms = (reply.len(), relay.len());
-    let done = attempt(tables, now, |state| state.message(now, connection, message, random, rooms));
-    deliver(done, reply, relay)
+    let (reply_length, relay_length) = (reply.len() as u64, relay.len() as u64);
+    let kind = Kind::Message { message, random, reply_length, relay_length };
+    deliver(attempt(tables, Call { now, connection, kind }), reply, relay)
 }
 
 /// Closes a connection.
 pub fn close(tables: &mut Tables, now: u64, connection: u64, relay: &mut [u8]) -> Answer {
-    let done = attempt(tables, now, |state| state.close(connection, relay.len()));
-    deliver(done, &mut [], relay)
+    let kind = Kind::Close { relay_length: relay.len() as u64 };
+    deliver(attempt(tables, Call { now, connection, kind }), &mut [], relay)
 }
 
 /// Makes a call on a copy of the relay, which becomes the relay if the call is accepted.
-fn attempt(
-    tables: &mut Tables,
-    now: u64,
-    call: impl FnOnce(&mut Relay) -> Result<Sent, Refusal>,
-) -> Result<Sent, Refusal> {
-    let mut relay = Relay::decode(tables).ok_or(Refusal::TableSize)?;
-    refuse_if(now >= TIME_LIMIT || now < relay.clock(), Refusal::Time)?;
-    let sent = call(&mut relay)?;
-    relay.set_clock(now);
+fn attempt(tables: &mut Tables, call: Call) -> Result<Sent, Refusal> {
+    let (mut relay, passed) = check(tables, &call)?;
+    relay.charge(&passed, call.now)?;
+    let sent = relay.act(passed.caller, passed.action, call.now);
+    relay.set_clock(call.now);
     *tables = relay.encode();
     Ok(sent)
 }
@@ -131,74 +112,37 @@ fn deliver(done: Result<Sent, Refusal>, reply: &mut [u8], relay: &mut [u8]) -> A
     Answer { number, reply: sent.reply.len(), relay: relayed.len(), destination, disconnect: sent.disconnect }
 }
 
-fn refuse_if(applies: bool, refusal: Refusal) -> Result<(), Refusal> {
-    if applies {
-        Err(refusal)
-    } else {
+impl Relay {
+    /// "A done charged call stores the level left and its reading as moment."
+    fn charge(&mut self, passed: &Passed, now: u64) -> Result<(), Refusal> {
+        if let Some(level) = passed.level_left()? {
+            self.allowances[partner_of(passed.caller)] = Allowance { level, updated: now };
+        }
         Ok(())
     }
-}
 
-/// "connection number 64 or more" is refused, however large.
-fn existing(connection: u64) -> Result<usize, Refusal> {
-    refuse_if(connection >= CONNECTIONS as u64, Refusal::NoSuchConnection)?;
-    Ok(connection as usize)
-}
-
-impl Relay {
-    fn open(&mut self, now: u64, connection: u64, reply_room: usize) -> Result<Sent, Refusal> {
-        let caller = existing(connection)?;
-        refuse_if(self.connections[caller].state() != State::Closed, Refusal::WrongState)?;
-        refuse_if(reply_room < BUFFER, Refusal::Buffers)?;
-        self.charge(caller, BASE_COST, now)?;
-        self.connections[caller] = Connection::fresh(State::Awaiting);
-        Ok(Sent::reply(Message::ProtocolVersion { major: 1, minor: 0 }))
-    }
-
-    fn message(
-        &mut self,
-        now: u64,
-        connection: u64,
-        message: &[u8],
-        random: &[u8],
-        (reply_room, relay_room): (usize, usize),
-    ) -> Result<Sent, Refusal> {
-        let caller = existing(connection)?;
-        let state = self.connections[caller].state();
-        refuse_if(state == State::Closed, Refusal::WrongState)?;
-        let random = RandomBytes::new(random).ok_or(Refusal::Buffers)?;
-        refuse_if(reply_room < BUFFER || relay_room < BUFFER.max(message.len()), Refusal::Buffers)?;
-        let request = Request::decode(message).ok_or(Refusal::NotFromPeers)?;
-        refuse_if(!request.permitted_in(state), Refusal::NotPermitted)?;
-        let other = self.in_session_with(caller);
-        refuse_if(request.needs_session() && other.is_none(), Refusal::NoSession)?;
-        if let Some(cost) = cost(message) {
-            self.charge(caller, cost, now)?;
+    /// The effect of a call that has passed every check.
+    fn act(&mut self, caller: usize, action: Action, now: u64) -> Sent {
+        match action {
+            Action::Open => self.open(caller),
+            Action::Request(request, random) => self.serve(caller, request, random, now),
+            Action::Close => self.close(caller),
         }
-        Ok(self.act(caller, request, random, now))
     }
 
-    fn close(&mut self, connection: u64, relay_room: usize) -> Result<Sent, Refusal> {
-        let caller = existing(connection)?;
-        refuse_if(self.connections[caller].state() == State::Closed, Refusal::WrongState)?;
-        refuse_if(relay_room < BUFFER, Refusal::Buffers)?;
+    fn open(&mut self, caller: usize) -> Sent {
+        self.connections[caller] = Connection::fresh(State::Awaiting);
+        Sent::reply(Message::ProtocolVersion { major: 1, minor: 0 })
+    }
+
+    fn close(&mut self, caller: usize) -> Sent {
         let sent = self.end(caller);
         self.release_leases(caller);
         self.connections[caller] = Connection::fresh(State::Closed);
-        Ok(sent)
+        sent
     }
 
-    /// "Equal cost and level passes"; "stores the level left and its reading as moment".
-    fn charge(&mut self, caller: usize, cost: u64, now: u64) -> Result<(), Refusal> {
-        let allowance = &mut self.allowances[partner_of(caller)];
-        let left = allowance.level_at(now).checked_sub(cost).ok_or(Refusal::Allowance)?;
-        allowance.level = left;
-        allowance.updated = now;
-        Ok(())
-    }
-
-    /// The effect of a request that has passed every check.
-    fn act(&mut self, caller: usize, request: Request, random: RandomBytes, now: u64) -> Sent {
+    fn serve(&mut self, caller: usize, request: Request, random: RandomBytes, now: u64) -> Sent {
         match request {
             Request::VersionAnswer { ok } => self.answer_version(caller, ok),
             Request::Lease => Sent::reply(match self.lease(caller, random, now) {

@@ -19,7 +19,27 @@ pub struct Offer {
     pub id: Option<u32>,
 }
 
+/// The four conditions, in the scope's order.
+#[derive(Clone, Copy, Debug, PartialEq, Eq)]
+pub enum Condition {
+    HoldsNone = 1,
+    RowLeft = 2,
+    CookieIsNew = 3,
+    FreeId = 4,
+}
+
 impl Offer {
+    /// Those that fail, in the scope's order.
+    pub fn failed(self) -> impl Iterator<Item = Condition> {
+        let all = [
+            (Condition::HoldsNone, self.holds_none),
+            (Condition::RowLeft, self.row.is_some()),
+            (Condition::CookieIsNew, self.cookie_is_new),
+            (Condition::FreeId, self.id.is_some()),
+        ];
+        all.into_iter().filter(|(_, holds)| !holds).map(|(condition, _)| condition)
+    }
+
     /// The row and id of the new lease, if all four hold.
     fn accepted(self) -> Option<(usize, u32)> {
         if self.holds_none && self.cookie_is_new {

@@ -1,16 +1,20 @@
 //! The relay, written from the project's scope alone: a second implementation that shares nothing with the proved one
 //! but the papers. The three tables are decoded to typed records ([`Relay`]), a call acts on these, and what it leaves
-//! is encoded again if the call is accepted.
+//! is encoded again if the call is accepted. [`reasons`] says of a call, without making it, why it is turned away or
+//! what decides it.
 
 mod calls;
+mod checks;
 mod leases;
+pub mod reasons;
 mod records;
 mod relay;
 mod requests;
 mod sessions;
 
-pub use calls::{close, fresh, message, open, Answer, Refusal};
-pub use leases::Offer;
+pub use calls::{close, fresh, message, open, Answer};
+pub use checks::Refusal;
+pub use leases::{Condition, Offer};
 pub use records::{Allowance, Connection, Lease, Session, State};
 pub use relay::{partner_of, Relay, Tables, CONNECTIONS, LEASES, PARTNERS};
 pub use requests::{cost, RandomBytes, Request, BASE_COST};

@@ -31,7 +31,7 @@ pub fn call(subject: &impl Boundary, tables: &Tables, call: &Call) -> Result<Out
     let (mut ours, mut expected) = (before.clone(), before.clone());
     let expected_answer = Second.call(call, &mut expected);
     let answer = subject.call(call, &mut ours);
-    let described = || describe(call, &before);
+    let described = || describe(call, tables);
     same(described, &answer, &expected_answer)?;
     same_lent(described, &ours, &expected)?;
     if answer.number != 0 {
@@ -40,7 +40,7 @@ pub fn call(subject: &impl Boundary, tables: &Tables, call: &Call) -> Result<Out
     Ok(Outcome { answer, lent: ours })
 }
 
-fn same_lent(call: impl Fn() -> String, ours: &Lent, expected: &Lent) -> Result<(), Difference> {
+pub(crate) fn same_lent(call: impl Fn() -> String, ours: &Lent, expected: &Lent) -> Result<(), Difference> {
     for ((name, ours), (_, expected)) in ours.named().into_iter().zip(expected.named()) {
         same_bytes(|| format!("{}: in {name}", call()), ours, expected)?;
     }
@@ -48,7 +48,7 @@ fn same_lent(call: impl Fn() -> String, ours: &Lent, expected: &Lent) -> Result<
 }
 
 /// The call and the tables before it, enough to make it again.
-fn describe(call: &Call, before: &Lent) -> String {
+pub(crate) fn describe(call: &Call, tables: &Tables) -> String {
     let kind = match &call.kind {
         Kind::Message { connection, message, random, reply, relay } => format!(
             "message of connection {connection}, {}, random {random:?}, buffers of {reply} and {relay}",
@@ -56,6 +56,5 @@ fn describe(call: &Call, before: &Lent) -> String {
         ),
         other => format!("{other:?}"),
     };
-    let tables = before.tables();
     format!("at {} {kind}\non {tables:?}\n", call.now)
 }

@@ -5,6 +5,9 @@ use model::Tables;
 
 use crate::guarded::Guarded;
 
+/// No buffer is lent that is longer; every message is shorter.
+const LONGEST_BUFFER: usize = 70_000;
+
 /// A call, with all that it brings but the tables. Of buffers that are only written it has the lengths.
 #[derive(Clone, Debug)]
 pub struct Call {
@@ -21,6 +24,16 @@ pub enum Kind {
 }
 
 impl Call {
+    /// The call's name, for counts.
+    pub fn name(&self) -> &'static str {
+        match self.kind {
+            Kind::Fresh => "fresh",
+            Kind::Open { .. } => "open",
+            Kind::Message { .. } => "message",
+            Kind::Close { .. } => "close",
+        }
+    }
+
     /// The caller's connection, if there is such a one.
     pub fn caller(&self) -> Option<usize> {
         let connection = match self.kind {
@@ -57,13 +70,18 @@ impl Call {
     }
 
     /// The lengths of the reply and the relay buffer.
-    fn rooms(&self) -> (usize, usize) {
+    fn rooms(&self) -> [usize; 2] {
         match self.kind {
-            Kind::Fresh => (0, 0),
-            Kind::Open { reply, .. } => (reply, 0),
-            Kind::Message { reply, relay, .. } => (reply, relay),
-            Kind::Close { relay, .. } => (0, relay),
+            Kind::Fresh => [0, 0],
+            Kind::Open { reply, .. } => [reply, 0],
+            Kind::Message { reply, relay, .. } => [reply, relay],
+            Kind::Close { relay, .. } => [0, relay],
         }
+    }
+
+    /// Whether it names a length that no buffer has.
+    pub fn has_length_beyond_memory(&self) -> bool {
+        self.rooms().iter().any(|&room| room > LONGEST_BUFFER)
     }
 }
 
@@ -80,8 +98,9 @@ pub struct Lent {
 }
 
 impl Lent {
+    /// A buffer of a length beyond memory is lent as long as one can be: a call only asks whether it is too short.
     pub fn new(tables: &Tables, call: &Call) -> Self {
-        let (reply, relay) = call.rooms();
+        let [reply, relay] = call.rooms().map(|room| room.min(LONGEST_BUFFER));
         Self {
             connections: Guarded::holding(&tables.connections),
             leases: Guarded::holding(&tables.leases),

@@ -2,9 +2,10 @@
 
 use codec::{encode, Message, DATA_LIMIT};
 use engine::relay::{BUFFER, RANDOM};
-use model::{partner_of, Lease, Relay, State, BASE_COST, CONNECTIONS, TIME_LIMIT};
+use model::{partner_of, Lease, Relay, State, Tables, BASE_COST, CONNECTIONS, TIME_LIMIT};
 
 use super::boundary::{Call, Kind};
+use super::tables;
 use crate::forms;
 use crate::random::Random;
 
@@ -14,6 +15,9 @@ const NO_CONNECTIONS: [u64; 8] = [64, 65, 255, 256, 1 << 32, (1 << 32) + 5, 1 <<
 /// Times at which calls are made on tables from anywhere.
 const TIMES: [u64; 8] = [0, 1, 100, 3_600, 1 << 32, TIME_LIMIT - 3_600, TIME_LIMIT - 2, TIME_LIMIT - 1];
 const TIMES_TOO_LATE: [u64; 4] = [TIME_LIMIT, TIME_LIMIT + 1, 1 << 63, u64::MAX];
+
+/// Lengths that no buffer has, some with low bits that would be too short.
+const LENGTHS_BEYOND_MEMORY: [usize; 4] = [1 << 32, (1 << 32) + 64, 1 << 63, usize::MAX];
 
 /// Lengths of data, hardly ever the longest.
 pub const SHORT_DATA: &[usize] = &[0, 1, 2, 30, 63, 64, 65, 1_000];
@@ -33,6 +37,29 @@ impl Calls<'_> {
             1..8 => self.random.choice(&TIMES),
             _ => self.random.number() % TIME_LIMIT,
         }
+    }
+
+    /// A call that suits the tables, one in three spoiled, in one thing or in several.
+    pub fn any(&mut self, relay: &Relay, now: u64) -> Call {
+        let connection = self.random.below(CONNECTIONS);
+        let data = if self.random.one_in(40) { LONG_DATA } else { SHORT_DATA };
+        let mut call = self.suitable(relay, now, connection, data);
+        while self.random.one_in(3) {
+            self.spoil(&mut call, relay.clock());
+        }
+        call
+    }
+
+    /// The tables, at times with a level near the call's cost or with a table of another size.
+    pub fn varied(&mut self, tables: &Tables, call: &Call) -> Tables {
+        let mut tables = tables.clone();
+        if let (Some(caller), Some(cost), true) = (call.caller(), call.cost(), self.random.one_in(4)) {
+            tables::set_level_near(self.random, &mut tables, partner_of(caller), call.now, cost);
+        }
+        if self.random.one_in(40) {
+            tables::resize_one(self.random, &mut tables);
+        }
+        tables
     }
 
     /// A call of the connection that its state permits, mostly; with such data, if data is sent.
@@ -187,6 +214,19 @@ impl Calls<'_> {
                 _ => message.clear(),
             }
             *relay = BUFFER.max(message.len());
+        }
+    }
+
+    /// Gives a buffer, at times, a length that none has.
+    pub fn lengthen(&mut self, call: &mut Call) {
+        if !self.random.one_in(6) {
+            return;
+        }
+        let length = self.random.choice(&LENGTHS_BEYOND_MEMORY);
+        match &mut call.kind {
+            Kind::Fresh => {}
+            Kind::Open { reply: room, .. } | Kind::Close { relay: room, .. } => *room = length,
+            Kind::Message { reply, relay, .. } => *(if self.random.one_in(2) { reply } else { relay }) = length,
         }
     }
 

@@ -6,4 +6,6 @@ pub mod calls;
 pub mod monitor;
 pub mod reached;
 pub mod runs;
+pub mod single;
+pub mod spoiled;
 pub mod tables;

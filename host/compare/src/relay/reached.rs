@@ -54,13 +54,7 @@ pub struct Reached {
 impl Reached {
     /// Counts a call that was made on these tables, by its answer and its effects.
     pub fn count(&mut self, tables: &Tables, call: &Call, outcome: &Outcome) {
-        let name = match call.kind {
-            Kind::Fresh => "fresh",
-            Kind::Open { .. } => "open",
-            Kind::Message { .. } => "message",
-            Kind::Close { .. } => "close",
-        };
-        self.answers.count(name, outcome.answer.number);
+        self.answers.count(call.name(), outcome.answer.number);
         if let (0, Some(relay), Some(caller)) = (outcome.answer.number, Relay::decode(tables), call.caller()) {
             count_effects(&mut self.effects, &relay, call, caller, outcome);
         }
@@ -69,11 +63,7 @@ impl Reached {
     /// Asserts that each function had just these answers, and that all effects were reached.
     pub fn assert_all(&self, answers: &[(&str, &[u32])]) {
         println!("{self}");
-        for (name, reached) in answers {
-            for number in 0..=9 {
-                self.answers.assert_reached(name, number, reached.contains(&number));
-            }
-        }
+        self.answers.assert_just(answers);
         for status in 0..=5 {
             self.effects.assert_reached(STATUS, status, true);
         }
@@ -129,11 +119,10 @@ fn count_request(effects: &mut Tally, request: Request, outcome: &Outcome) {
 
 fn count_lease(effects: &mut Tally, relay: &Relay, caller: usize, random: RandomBytes, now: u64) {
     let offer = relay.offer(caller, random, now);
-    let conditions = [offer.holds_none, offer.row.is_some(), offer.cookie_is_new, offer.id.is_some()];
-    let failed: Vec<_> = LEASE_CONDITIONS.into_iter().zip(conditions).filter(|(_, holds)| !holds).collect();
+    let failed: Vec<_> = offer.failed().collect();
     match failed[..] {
         [] => count_grant(effects, relay, offer, random),
-        [(name, _)] => effects.count(name, 0),
+        [condition] => effects.count(LEASE_CONDITIONS[condition as usize - 1], 0),
         _ => effects.count("lease: several of these", 0),
     }
 }

@@ -1,67 +1,11 @@
 //! The scope's twelve worked examples, by their numbers there, through the four calls.
 
-use model::{close, fresh, message, open, Answer, Relay, Tables, LEVEL_LIMIT, NOBODY, TIME_LIMIT};
+use model::{close, fresh, open, Answer, Relay, Tables, LEVEL_LIMIT, NOBODY, TIME_LIMIT};
 
-/// A fresh relay at this time.
-fn relay(now: u64) -> Tables {
-    let mut tables = Tables { connections: vec![7; 4096], leases: vec![7; 5120], allowances: vec![7; 144] };
-    assert_eq!(fresh(&mut tables, now).number, 0);
-    tables
-}
-
-/// A fresh relay with these connections open.
-fn relay_with(now: u64, connections: &[u64]) -> Tables {
-    let mut tables = relay(now);
-    for &connection in connections {
-        assert_eq!(open(&mut tables, now, connection, &mut [0; 64]).number, 0);
-        assert_eq!(send(&mut tables, now, connection, &[1, 1]).answer.number, 0);
-    }
-    tables
-}
-
-struct Sent {
-    answer: Answer,
-    reply: Vec<u8>,
-    relay: Vec<u8>,
-}
-
-/// The random bytes of every message here: the first candidate is 0x04000001.
-const RANDOM: [u8; 80] = {
-    let mut bytes = [9; 80];
-    [bytes[24], bytes[25], bytes[26], bytes[27]] = [4, 0, 0, 1];
-    bytes
-};
-
-fn send(tables: &mut Tables, now: u64, connection: u64, bytes: &[u8]) -> Sent {
-    let (mut reply, mut relay) = (vec![0; 64], vec![0; 64.max(bytes.len())]);
-    let answer = message(tables, now, connection, bytes, &RANDOM, &mut reply, &mut relay);
-    reply.truncate(answer.reply);
-    relay.truncate(answer.relay);
-    Sent { answer, reply, relay }
-}
-
-/// Asks for a session under the id of the random bytes, and gives the status.
-fn establish_with_id_1(tables: &mut Tables, now: u64, connection: u64) -> u8 {
-    send(tables, now, connection, &[6, 0, 0, 0, 1]).reply[5]
-}
-
-/// Sets the level and the time of the last charge of partner 0.
-fn set_allowance(tables: &mut Tables, level: u64, updated: u64) {
-    let mut relay = Relay::decode(tables).expect("tables of the right sizes");
-    (relay.allowances[0].level, relay.allowances[0].updated) = (level, updated);
-    *tables = relay.encode();
-}
+use crate::support::{establish_with_id_1, relay, relay_in_session, relay_with, send, set_allowance};
 
 fn level(tables: &Tables) -> u64 {
     Relay::decode(tables).expect("tables of the right sizes").allowances[0].level
-}
-
-/// Connection 0 in a session with connection 1, which holds id 1.
-fn relay_in_session(now: u64) -> Tables {
-    let mut tables = relay_with(now, &[0, 1]);
-    assert_eq!(send(&mut tables, now, 1, &[2, 0]).reply[..6], [3, 1, 0, 0, 0, 1]);
-    assert_eq!(establish_with_id_1(&mut tables, now, 0), 0);
-    tables
 }
 
 #[test]

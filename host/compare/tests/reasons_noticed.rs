@@ -1,0 +1,267 @@
+//! The comparison of explanations can fail: wrong reasons are noticed, and the right ones aren't.
+
+use compare::difference::Difference;
+use compare::reasons::boundary::Explain;
+use compare::reasons::{agree, truth};
+use compare::relay::boundary::{Call, Kind, Lent, Second};
+use compare::relay::calls::Calls;
+use compare::relay::runs::decoded;
+use compare::relay::single;
+use compare::relay::spoiled::SPOILED_BYTES;
+use compare::{amount, forms};
+use engine::reasons::{Reason, LEASE};
+use model::{partner_of, Lease, RandomBytes, Relay, State, Tables, LEVEL_LIMIT, TIME_LIMIT};
+
+/// Explains as the second implementation does, and then spoils something.
+#[derive(Clone, Copy)]
+struct Spoiled {
+    reason: fn(&mut Reason),
+    lent: fn(&mut Lent),
+}
+
+const UNSPOILED: Spoiled = Spoiled { reason: |_| {}, lent: |_| {} };
+
+impl Explain for Spoiled {
+    fn explain(&self, call: &Call, lent: &mut Lent) -> Reason {
+        let mut reason = Second.explain(call, lent);
+        (self.reason)(&mut reason);
+        (self.lent)(lent);
+        reason
+    }
+}
+
+const SPOILED_REASONS: [fn(&mut Reason); 17] = [
+    |reason| reason.check += 1,
+    |reason| reason.check ^= 9,
+    |reason| reason.request ^= 1,
+    |reason| reason.condition ^= 1,
+    |reason| reason.condition += 1,
+    |reason| reason.charged ^= 1,
+    |reason| reason.headroom += 1,
+    |reason| reason.headroom -= 1,
+    |reason| reason.headroom ^= 1 << 32,
+    // Fields exchanged.
+    |reason| (reason.request, reason.condition) = (reason.condition, reason.request),
+    |reason| (reason.check, reason.charged) = (reason.charged, reason.check),
+    // The shortfall without its sign, as 32 bits, or cut off at 0.
+    |reason| reason.headroom = reason.headroom.abs(),
+    |reason| reason.headroom = i64::from(reason.headroom as u32),
+    |reason| reason.headroom = reason.headroom.max(0),
+    // A headroom of calls that have none, and none of those that can't be paid.
+    |reason| {
+        if reason.charged == 0 {
+            (reason.charged, reason.headroom) = (1, LEVEL_LIMIT as i64);
+        }
+    },
+    |reason| {
+        if reason.check == 9 {
+            (reason.charged, reason.headroom) = (0, 0);
+        }
+    },
+    // A lease that can't be paid is decided all the same.
+    |reason| {
+        if reason.check == 9 {
+            reason.request = LEASE;
+        }
+    },
+];
+
+/// Calls of partner 0 at 100 that are explained in different ways. Of its connections 0 and 1 are in a session, 2 holds
+/// id 1, 3 holds nothing, and the others are closed.
+fn scenes() -> Vec<(Tables, Call)> {
+    let open = |connection| Kind::Open { connection, reply: 64 };
+    let close = |connection| Kind::Close { connection, relay: 64 };
+    let (lease, establish) = ([2, 0], [6, 0, 0, 0, 1]);
+    let calls = [
+        (LEVEL_LIMIT, open(4)),
+        (20, open(4)),
+        (LEVEL_LIMIT, open(3)),
+        (LEVEL_LIMIT, message(3, &lease)),
+        (LEVEL_LIMIT, message(2, &lease)),
+        (10, message(3, &lease)),
+        (LEVEL_LIMIT, message(3, &establish)),
+        (LEVEL_LIMIT, message(2, &establish)),
+        (33, message(3, &[13])),
+        (0, message(0, &[9])),
+        (0, message(3, &[9])),
+        (0, close(3)),
+        (0, close(4)),
+    ];
+    calls.map(|(level, kind)| (tables_at(level), Call { now: 100, kind })).into()
+}
+
+fn message(connection: u64, bytes: &[u8]) -> Kind {
+    Kind::Message { connection, message: bytes.to_vec(), random: vec![9; 80], reply: 64, relay: 64 }
+}
+
+fn tables_at(level: u64) -> Tables {
+    let mut relay = Relay::fresh(100);
+    for connection in &mut relay.connections[..4] {
+        connection.set_state(State::Open);
+    }
+    (relay.connections[0].peer, relay.connections[1].peer) = (1, 0);
+    (relay.leases[0].expiry, relay.leases[0].id, relay.leases[0].holder) = (101, 1, 2);
+    relay.allowances[0].level = level;
+    relay.encode()
+}
+
+/// What the relay's replies show of a reason: of a lease's condition only whether there is one that fails.
+fn shown(mut reason: Reason) -> Reason {
+    if reason.request == LEASE {
+        reason.condition = reason.condition.min(1);
+    }
+    reason
+}
+
+#[test]
+fn a_wrong_reason() {
+    for (number, spoil) in SPOILED_REASONS.into_iter().enumerate() {
+        let mut noticed = 0;
+        for (tables, call) in scenes() {
+            let right = agree::explain(&UNSPOILED, &tables, &call).expect("the right reason");
+            let mut wrong = right;
+            spoil(&mut wrong);
+            let told = agree::explain(&Spoiled { reason: spoil, ..UNSPOILED }, &tables, &call);
+            assert_eq!(told.is_err(), wrong != right, "way {number}: {wrong:?} for {right:?}");
+            let made = truth::check(&Second, &tables, &call, &wrong);
+            assert_eq!(made.is_err(), shown(wrong) != shown(right), "way {number}: {wrong:?} for {right:?}");
+            noticed += u32::from(made.is_err());
+        }
+        assert!(noticed > 0, "way {number} spoils nothing");
+    }
+}
+
+#[test]
+fn a_wrong_byte_of_anything_lent() {
+    let call = Call { now: 100, kind: message(3, &[13]) };
+    for lent in SPOILED_BYTES {
+        assert!(agree::explain(&Spoiled { lent, ..UNSPOILED }, &tables_at(33), &call).is_err());
+    }
+}
+
+/// Explains a call as if it, or the relay, were another: so it overlooks something.
+struct Overlooking(Overlook);
+
+type Overlook = fn(&mut Relay, &mut Call);
+
+impl Explain for Overlooking {
+    fn explain(&self, call: &Call, lent: &mut Lent) -> Reason {
+        let Some(mut relay) = Relay::decode(&lent.tables()) else {
+            return Second.explain(call, lent);
+        };
+        let mut call = call.clone();
+        (self.0)(&mut relay, &mut call);
+        Second.explain(&call, &mut Lent::new(&relay.encode(), &call))
+    }
+}
+
+const OVERLOOKED: [(&str, Overlook); 12] = [
+    ("the refill", |relay, call| relay.allowances[partner(call)].updated = call.now),
+    ("whose allowance it is", |relay, call| relay.allowances[partner(call)] = relay.allowances[0].clone()),
+    ("that time doesn't go back", |relay, _| relay.set_clock(0)),
+    ("the limit of times", |_, call| call.now = call.now.min(TIME_LIMIT - 1)),
+    ("the high bits of a connection", |_, call| cut_connection(&mut call.kind)),
+    ("the high bits of a length", |_, call| cut_lengths(&mut call.kind)),
+    ("that the relay buffer holds the message", |_, call| hold_message(&mut call.kind)),
+    ("how many random bytes there are", |_, call| resize_random(&mut call.kind)),
+    ("the last candidate", |_, call| repeat_candidate(&mut call.kind)),
+    ("that a lease ends at its expiry", |relay, _| relay.leases.iter_mut().for_each(prolong)),
+    ("ids live under another partner", |relay, call| end_leases_but_of(relay, partner(call))),
+    ("that both name each other in a session", |relay, call| name_back(relay, call)),
+];
+
+/// The caller's partner.
+fn partner(call: &Call) -> usize {
+    call.caller().map_or(0, partner_of)
+}
+
+fn cut_connection(kind: &mut Kind) {
+    if let Kind::Open { connection, .. } | Kind::Message { connection, .. } | Kind::Close { connection, .. } = kind {
+        *connection &= 0xffff_ffff;
+    }
+}
+
+fn cut_lengths(kind: &mut Kind) {
+    let cut = |length: &mut usize| *length &= 0xffff_ffff;
+    match kind {
+        Kind::Fresh => {}
+        Kind::Open { reply: length, .. } | Kind::Close { relay: length, .. } => cut(length),
+        Kind::Message { reply, relay, .. } => [reply, relay].into_iter().for_each(cut),
+    }
+}
+
+fn hold_message(kind: &mut Kind) {
+    if let Kind::Message { message, relay, .. } = kind {
+        *relay = message.len().max(*relay);
+    }
+}
+
+fn resize_random(kind: &mut Kind) {
+    if let Kind::Message { random, .. } = kind {
+        random.resize(80, 0);
+    }
+}
+
+fn repeat_candidate(kind: &mut Kind) {
+    if let Kind::Message { random, .. } = kind {
+        if random.len() == 80 {
+            random.copy_within(72..76, 76);
+        }
+    }
+}
+
+fn prolong(lease: &mut Lease) {
+    lease.expiry = lease.expiry.saturating_add(1);
+}
+
+fn end_leases_but_of(relay: &mut Relay, partner: usize) {
+    for (row, lease) in relay.leases.iter_mut().enumerate() {
+        if row / 16 != partner {
+            lease.expiry = 0;
+        }
+    }
+}
+
+fn name_back(relay: &mut Relay, call: &Call) {
+    if let Some(caller) = call.caller() {
+        let peer = usize::from(relay.connections[caller].peer);
+        if let Some(other) = relay.connections.get_mut(peer) {
+            other.peer = caller as u8;
+        }
+    }
+}
+
+/// Names the last condition of a lease that fails, and not the first.
+struct LastCondition;
+
+impl Explain for LastCondition {
+    fn explain(&self, call: &Call, lent: &mut Lent) -> Reason {
+        let mut reason = Second.explain(call, lent);
+        if reason.request == LEASE {
+            let relay = decoded(&lent.tables());
+            let random = RandomBytes::new(lent.random.lend()).expect("a done lease");
+            let offer = relay.offer(call.caller().expect("a done lease"), random, call.now);
+            reason.condition = offer.failed().last().map_or(0, |condition| condition as u32);
+        }
+        reason
+    }
+}
+
+/// Explains single calls, as many as the compiled functions do, until a reason is wrong.
+fn explain_calls(subject: &impl Explain) -> Result<(), Difference> {
+    let mut random = amount::random();
+    let pool = forms::pool(&mut random);
+    let mut calls = Calls { random: &mut random, pool: &pool };
+    single::calls(&mut calls, amount::rounds(60_000), |calls, tables, mut call| {
+        calls.lengthen(&mut call);
+        agree::explain(subject, tables, &call).map(drop)
+    })
+}
+
+#[test]
+fn what_is_overlooked() {
+    for (what, overlook) in OVERLOOKED {
+        explain_calls(&Overlooking(overlook)).expect_err(what);
+    }
+    explain_calls(&LastCondition).expect_err("which condition is the first");
+}

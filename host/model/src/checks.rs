@@ -1,0 +1,130 @@
+//! The checks, in their order, on a call and all that it brings: "the first that applies decides".
+
+use crate::records::State;
+use crate::relay::{partner_of, Relay, Tables, CONNECTIONS};
+use crate::requests::{cost, RandomBytes, Request, BASE_COST};
+use crate::TIME_LIMIT;
+
+/// The least reply buffer, and the least relay buffer.
+const BUFFER: u64 = 64;
+
+/// The checks, by their numbers.
+#[derive(Clone, Copy, Debug, PartialEq, Eq)]
+pub enum Refusal {
+    TableSize = 1,
+    Time = 2,
+    NoSuchConnection = 3,
+    WrongState = 4,
+    Buffers = 5,
+    NotFromPeers = 6,
+    NotPermitted = 7,
+    NoSession = 8,
+    Allowance = 9,
+}
+
+/// A call of a connection. Of the buffers that it writes to it has the lengths, which may be any numbers.
+#[derive(Clone, Copy)]
+pub(crate) struct Call<'a> {
+    pub now: u64,
+    pub connection: u64,
+    pub kind: Kind<'a>,
+}
+
+#[derive(Clone, Copy)]
+pub(crate) enum Kind<'a> {
+    Open { reply_length: u64 },
+    Message { message: &'a [u8], random: &'a [u8], reply_length: u64, relay_length: u64 },
+    Close { relay_length: u64 },
+}
+
+impl Kind<'_> {
+    /// What the call costs, if it is a charged one: "an open costs 32", "close [..] nothing".
+    fn cost(&self) -> Option<u64> {
+        match self {
+            Self::Open { .. } => Some(BASE_COST),
+            Self::Message { message, .. } => cost(message),
+            Self::Close { .. } => None,
+        }
+    }
+}
+
+/// What a call that has passed checks 1 to 8 asks for.
+#[derive(Clone, Copy)]
+pub(crate) enum Action<'a> {
+    Open,
+    Request(Request<'a>, RandomBytes<'a>),
+    Close,
+}
+
+/// A call that has passed checks 1 to 8.
+pub(crate) struct Passed<'a> {
+    pub caller: usize,
+    pub action: Action<'a>,
+    /// Of a charged call "level minus charge, negative by exactly the shortfall".
+    pub headroom: Option<i64>,
+}
+
+impl Passed<'_> {
+    /// Check 9: "Equal cost and level passes". Gives the level that a charged call leaves.
+    pub fn level_left(&self) -> Result<Option<u64>, Refusal> {
+        let left = self.headroom.map(u64::try_from).transpose();
+        left.map_err(|_| Refusal::Allowance)
+    }
+}
+
+/// Checks 1 to 8. Gives the relay that the tables are, and what is asked of it.
+pub(crate) fn check<'a>(tables: &Tables, call: &Call<'a>) -> Result<(Relay, Passed<'a>), Refusal> {
+    let relay = Relay::decode(tables).ok_or(Refusal::TableSize)?;
+    refuse_if(call.now >= TIME_LIMIT || call.now < relay.clock(), Refusal::Time)?;
+    refuse_if(call.connection >= CONNECTIONS as u64, Refusal::NoSuchConnection)?;
+    let caller = call.connection as usize;
+    let action = relay.check_kind(caller, call.kind)?;
+    let headroom = call.kind.cost().map(|cost| relay.headroom(caller, cost, call.now));
+    Ok((relay, Passed { caller, action, headroom }))
+}
+
+fn refuse_if(applies: bool, refusal: Refusal) -> Result<(), Refusal> {
+    if applies {
+        Err(refusal)
+    } else {
+        Ok(())
+    }
+}
+
+impl Relay {
+    /// Checks 4 to 8: "open on a connection not closed; message or close on a closed one", and what a call of each kind
+    /// has to bring.
+    fn check_kind<'a>(&self, caller: usize, kind: Kind<'a>) -> Result<Action<'a>, Refusal> {
+        let closed = self.connections[caller].state() == State::Closed;
+        refuse_if(closed != matches!(kind, Kind::Open { .. }), Refusal::WrongState)?;
+        match kind {
+            Kind::Open { reply_length } => {
+                refuse_if(reply_length < BUFFER, Refusal::Buffers)?;
+                Ok(Action::Open)
+            }
+            Kind::Message { message, random, reply_length, relay_length } => {
+                let random = RandomBytes::new(random).ok_or(Refusal::Buffers)?;
+                refuse_if(reply_length < BUFFER, Refusal::Buffers)?;
+                refuse_if(relay_length < BUFFER.max(message.len() as u64), Refusal::Buffers)?;
+                Ok(Action::Request(self.check_message(caller, message)?, random))
+            }
+            Kind::Close { relay_length } => {
+                refuse_if(relay_length < BUFFER, Refusal::Buffers)?;
+                Ok(Action::Close)
+            }
+        }
+    }
+
+    /// Checks 6 to 8.
+    fn check_message<'a>(&self, caller: usize, message: &'a [u8]) -> Result<Request<'a>, Refusal> {
+        let request = Request::decode(message).ok_or(Refusal::NotFromPeers)?;
+        refuse_if(!request.permitted_in(self.connections[caller].state()), Refusal::NotPermitted)?;
+        refuse_if(request.needs_session() && self.in_session_with(caller).is_none(), Refusal::NoSession)?;
+        Ok(request)
+    }
+
+    /// What the caller's partner has at this time, less the cost.
+    fn headroom(&self, caller: usize, cost: u64, now: u64) -> i64 {
+        self.allowances[partner_of(caller)].level_at(now) as i64 - cost as i64
+    }
+}
