@@ -1,15 +1,14 @@
 -- The reasons of calls, by the check that answers them, over plain values. Assumes nothing.
-use Prim.Native.Nat.{ℕ, zero, suc, _+_, _≤_, _<_}
+use Prim.Native.Nat.{ℕ, zero, suc, _+_, _≤_}
 use mathlib.Core.Path.{_≡_, refl, sym, ap, ap₂, _∙_}
-use mathlib.Core.Logic.{_⊎_, inl, inr, ⊎-elim}
 use mathlib.Core.Bool.{Bool, true, false, not, _&&_, cond, false≢true, true≢false}
-use mathlib.Core.Option.{Option, none, some}
+use mathlib.Core.Option.{none, some}
 use mathlib.Core.List.{List}
 use native.Mathlib.Omega.{arith}
 use lib.Dec.{eqb, ltb}
-use lib.IntN.{ℤ, pos, _-ℤ_}
+use lib.IntN.{pos, _-ℤ_}
 use lib.ListN.{length}
-use borrow.Author.Tests.{eq-eqb, ne-eqb, eqb-true, eqb-false, not-true, not-false}
+use borrow.Author.Tests.{eq-eqb, ne-eqb, not-true}
 use Rattle.octets.specs.Octets.{if_then_else_, byteAt, numberAt}
 use Rattle.octets.proofs.Tests.{both-left, both-right, and-false}
 use Rattle.svsc.specs.Messages.{typeOf, fromPeer, longestMessage}
@@ -21,10 +20,9 @@ use Rattle.rules.specs.Sessions.{decideEstablish}
 use Rattle.rules.specs.Calls.{Call, message}
 use Rattle.rules.specs.Charges.{charged, cost, price, callerLevel}
 use Rattle.rules.specs.Checks.{firstEight, precheck, check}
-use Rattle.rules.specs.Reasons.{conditionOf, statusOf, Decided, undecided, asked, decided, headroom, explain}
+use Rattle.rules.specs.Reasons.{conditionOf, statusOf, undecided, asked, decided, headroom, explain}
 use Rattle.rules.proofs.Checks.{at-most, check-verdict}
 use Rattle.checks.proofs.MessageChecks.{type-known, ends}
-use Rattle.reasons.specs.declared.Reason.{Reason}
 use Rattle.reasons.specs.declared.Named.{Named}
 use Rattle.reasons.specs.Coded.{named, reasonOf, coded}
 

@@ -3,28 +3,28 @@ use Prim.Native.Nat.{ℕ, zero, suc, _+_, _-_, _*_, _≤_, _<_, min}
 use mathlib.Core.Path.{_≡_, refl, sym, ap, ap₂, _∙_}
 use mathlib.Core.Logic.{_≢_, _⊎_, inl, inr, ⊎-elim, _↔_}
 use mathlib.Core.Bool.{Bool, true, false, _&&_, false≢true}
-use mathlib.Core.Option.{Option, none, some}
-use mathlib.Core.List.{List, [], _∷_, _++_}
+use mathlib.Core.Option.{none, some}
+use mathlib.Core.List.{List, [], _∷_}
 use native.Mathlib.Nat.{zero-add}
 use native.Mathlib.Omega.{arith}
 use native.Mathlib.Decide.{ℕ-discrete, decLt}
-use lib.Dec.{eqb, ltb, lit<}
+use lib.Dec.{eqb, lit<}
 use lib.ListN.{length, getD, List·getD-append, List·getD-eq-default}
 use lib.IntN.{ℤ, pos, negsuc, _-ℤ_}
 use borrow.Author.Tests.{eq-eqb, ne-eqb, eqb-true, lt-ltb, le-ltb}
-use Rattle.octets.specs.Octets.{if_then_else_, byteAt, numberAt, bigEndian, part, put}
-use Rattle.octets.proofs.Tests.{both-left, both-right, by-test}
+use Rattle.octets.specs.Octets.{if_then_else_, byteAt, numberAt, bigEndian, put}
+use Rattle.octets.proofs.Tests.{by-test}
 use Rattle.octets.proofs.Numbers.{length-bigEndian}
 use Rattle.octets.proofs.Stores.{length-put, part-put, numberAt-put, numberAt-behind}
-use Rattle.svsc.specs.Messages.{EstablishRequest, typeOf, encode}
-use Rattle.allowance.specs.Bucket.{capacity, refillRate, Bucket, levelNow}
+use Rattle.svsc.specs.Messages.{typeOf, encode}
+use Rattle.allowance.specs.Bucket.{capacity, refillRate, levelNow}
 use Rattle.allowance.specs.Meter.{verdict}
 use Rattle.allowance.proofs.Numbers.{verdict-nine, nine-verdict, zero-verdict}
 use Rattle.rules.specs.Sizes.{partners}
 use Rattle.rules.specs.Tables.{Tables, allowanceAt, updatedAt, bucketOf, clock, sized}
 use Rattle.rules.specs.Leases.{LeaseDecision, holdsLease, noSpareRow, cookieInUse, noFreeId, granted, decideLease}
 use Rattle.rules.specs.Sessions.{EstablishDecision, refusedWith, establishedWith, decideEstablish}
-use Rattle.rules.specs.Calls.{Call, opening, message, closing, timeOf, callerOf, replyBuffer, Outcome}
+use Rattle.rules.specs.Calls.{Call, opening, message, closing, timeOf, callerOf, replyBuffer}
 use Rattle.rules.specs.Plans.{planLease, planEstablish, planMessage, plan}
 use Rattle.rules.specs.Charges.{charged, cost, price, callerLevel}
 use Rattle.rules.specs.Checks.{wrongTime, aboveLevel, firstEight, checks, precheck, check}
@@ -73,10 +73,9 @@ module _ (tables : Tables) (call : Call) where
       ∙ sym (byte-part (put (replyBuffer call) 0 bytes) 0 (length bytes) i l)
       ∙ rw (part-put (replyBuffer call) 0 bytes (omega arith)))
 
--- what is named of a message, by its type
-module _ (t u : Bool) (a : LeaseDecision) (b : EstablishDecision) where
-  abbrev chosen : Decided
-  chosen = if t then ofLease a else if u then ofEstablish b else undecided
+-- what a message asks to be decided, by its type
+abbrev chosen : (t u : Bool) → LeaseDecision → EstablishDecision → Decided
+chosen t u a b = if t then ofLease a else if u then ofEstablish b else undecided
 
 chosen-lease : (t u : Bool) (a : LeaseDecision) (b : EstablishDecision) (d : LeaseDecision) → chosen t u a b ≡ ofLease d → (t ≡ true) × (d ≡ a)
 chosen-lease true u a b d e = (refl, cc)
@@ -100,34 +99,32 @@ module _ (tables : Tables) (now c : ℕ) (m random reply relay : List ℕ) where
   abbrev sent : Call
   sent = message now c m random reply relay
 
-  -- what is named is named of a call that is done
-  done-if : (d : Decided) → d ≢ undecided → explain tables sent .decided ≡ d → Accepted tables sent × (asked tables sent ≡ d)
-  done-if d n h = go (ℕ-discrete (step tables sent .answer .number) 0)
+  -- A decision x of either kind, on messages of a type: it is named exactly of those that are done.
+  module _ {D : Type 0} (name : D → Decided) (type : ℕ) (x : D) (some-name : (d : D) → name d ≢ undecided)
+      (asked-is : typeOf m ≡ type → asked tables sent ≡ name x)
+      (is-asked : (d : D) → asked tables sent ≡ name d → (eqb (typeOf m) type ≡ true) × (d ≡ x))
     where
-      go : Dec (Accepted tables sent) → Accepted tables sent × (asked tables sent ≡ d)
-      go (yes e) = (e, sym (named-done tables sent e) ∙ h)
-      go (no r) = absurd (n (sym h ∙ named-refused tables sent r))
-
-  asked-lease : typeOf m ≡ 2 → asked tables sent ≡ ofLease (decideLease ls now c random)
-  unfolding asked
-  asked-lease t = rw (eq-eqb (typeOf m) 2 t)
-
-  asked-establish : typeOf m ≡ 6 → asked tables sent ≡ ofEstablish (decideEstablish cs ls now c (numberAt m 1 4))
-  unfolding asked
-  asked-establish t = rw (ne-eqb (typeOf m) 2 (λ e. omega arith), eq-eqb (typeOf m) 6 t)
+      named-exactly : (d : D) → (explain tables sent .decided ≡ name d) ↔ (Accepted tables sent × ((typeOf m ≡ type) × (d ≡ x)))
+      named-exactly d = (
+        (λ h. go h (ℕ-discrete (step tables sent .answer .number) 0)),
+        (λ q. named-done tables sent (q .0) ∙ asked-is (q .1 .0) ∙ ap name (sym (q .1 .1))),
+      )
+        where
+          go : explain tables sent .decided ≡ name d → Dec (Accepted tables sent)
+              → Accepted tables sent × ((typeOf m ≡ type) × (d ≡ x))
+          go h (yes e) = let by = is-asked d (sym (named-done tables sent e) ∙ h) in (e, (eqb-true (typeOf m) type (by .0), by .1))
+          go h (no r) = absurd (some-name d (sym h ∙ named-refused tables sent r))
 
   -- ---- a lease
 
   lease-exactly : (d : LeaseDecision)
       → (explain tables sent .decided ≡ ofLease d) ↔ (Accepted tables sent × ((typeOf m ≡ 2) × (d ≡ decideLease ls now c random)))
   unfolding asked
-  lease-exactly d = (
-    (λ h.
-        let is = done-if (ofLease d) (λ e. let z : _≡_ {A = ℕ} 0 1 = cc in omega arith) h in
-        let by = chosen-lease (eqb (typeOf m) 2) (eqb (typeOf m) 6) _ _ d (is .1) in
-        (is .0, (eqb-true (typeOf m) 2 (by .0), by .1))),
-    (λ q. named-done tables sent (q .0) ∙ asked-lease (q .1 .0) ∙ ap ofLease (sym (q .1 .1))),
-  )
+  lease-exactly =
+      named-exactly ofLease 2 (decideLease ls now c random)
+      (λ d e. let z : _≡_ {A = ℕ} 0 1 = cc in omega arith)
+      (λ t. rw (eq-eqb (typeOf m) 2 t))
+      (chosen-lease (eqb (typeOf m) 2) (eqb (typeOf m) 6) _ _)
 
   plan-lease : Accepted tables sent → typeOf m ≡ 2 → plan tables sent ≡ planLease tables now c (decideLease ls now c random)
   unfolding plan planMessage
@@ -144,63 +141,52 @@ module _ (tables : Tables) (now c : ℕ) (m random reply relay : List ℕ) where
   told-lease noFreeId = (lit< tt, ((λ e. absurd (omega arith)), (λ e. absurd (omega arith))))
   told-lease (granted row id cookie) = (omega arith, ((λ e. refl), (λ e. refl)))
 
-  pub lease-named : (d : LeaseDecision) → LeaseNamed tables now c m random reply relay d
+  pub lease-named : (d : LeaseDecision) → LeaseNamed tables sent now c m random d
   lease-named d = record {
     exactly = lease-exactly d;
     first = λ h. rw (lease-exactly d .0 h .1 .1) (first-failing ls now c random);
     acted = acted;
-    told = told;
+    told = λ h. rw (reply-byte tables sent (lease-exactly d .0 h .0) 1 (rw (acted h) (told-lease d .0)), acted h) (told-lease d .1);
   }
     where
       acted : explain tables sent .decided ≡ ofLease d → plan tables sent ≡ planLease tables now c d
       acted h = let is = lease-exactly d .0 h in plan-lease (is .0) (is .1 .0) ∙ rw (is .1 .1)
 
-      told : explain tables sent .decided ≡ ofLease d → (conditionOf d ≡ 0) ↔ (byteAt (step tables sent .reply) 1 ≡ 1)
-      told h =
-          let is = told-lease d in
-          rw (reply-byte tables sent (lease-exactly d .0 h .0) 1 (rw (acted h) (is .0)), acted h) (is .1)
-
   -- ---- a session
 
-  establish-exactly : (d : EstablishDecision)
-      → (explain tables sent .decided ≡ ofEstablish d)
-      ↔ (Accepted tables sent × ((typeOf m ≡ 6) × (d ≡ decideEstablish cs ls now c (numberAt m 1 4))))
-  unfolding asked
-  establish-exactly d = (
-    (λ h.
-        let is = done-if (ofEstablish d) (λ e. let z : _≡_ {A = ℕ} 0 1 = cc in omega arith) h in
-        let by = chosen-establish (eqb (typeOf m) 2) (eqb (typeOf m) 6) _ _ d (is .1) in
-        (is .0, (eqb-true (typeOf m) 6 (by .0), by .1))),
-    (λ q. named-done tables sent (q .0) ∙ asked-establish (q .1 .0) ∙ ap ofEstablish (sym (q .1 .1))),
-  )
+  abbrev id : ℕ
+  id = numberAt m 1 4
 
-  plan-establish : Accepted tables sent → typeOf m ≡ 6
-      → plan tables sent ≡ planEstablish tables c (numberAt m 1 4) random (decideEstablish cs ls now c (numberAt m 1 4))
+  establish-exactly : (d : EstablishDecision)
+      → (explain tables sent .decided ≡ ofEstablish d) ↔ (Accepted tables sent × ((typeOf m ≡ 6) × (d ≡ decideEstablish cs ls now c id)))
+  unfolding asked
+  establish-exactly =
+      named-exactly ofEstablish 6 (decideEstablish cs ls now c id)
+      (λ d e. let z : _≡_ {A = ℕ} 0 1 = cc in omega arith)
+      (λ t. rw (ne-eqb (typeOf m) 2 (λ e. omega arith), eq-eqb (typeOf m) 6 t))
+      (chosen-establish (eqb (typeOf m) 2) (eqb (typeOf m) 6) _ _)
+
+  plan-establish : Accepted tables sent → typeOf m ≡ 6 → plan tables sent ≡ planEstablish tables c id random (decideEstablish cs ls now c id)
   unfolding plan planMessage
   plan-establish e t = rw (by-type m (from-peer tables now c m random reply relay (done-passed tables sent e)) .six t)
 
   -- byte 5 of the reply is the status
-  told-status : (id : ℕ) (d : EstablishDecision) → (5 < length (planEstablish tables c id random d .reply))
+  told-status : (d : EstablishDecision) → (5 < length (planEstablish tables c id random d .reply))
       × (statusOf d ≡ byteAt (planEstablish tables c id random d .reply) 5)
   unfolding planEstablish encode bigEndian
-  told-status id (refusedWith status) = (lit< tt, refl)
-  told-status id (establishedWith h) = (omega arith, refl)
+  told-status (refusedWith status) = (lit< tt, refl)
+  told-status (establishedWith h) = (omega arith, refl)
 
-  pub establish-named : (d : EstablishDecision) → EstablishNamed tables now c m random reply relay d
+  pub establish-named : (d : EstablishDecision) → EstablishNamed tables sent now c m random d
   establish-named d = record {
     exactly = establish-exactly d;
-    first = λ h. rw (establish-exactly d .0 h .1 .1) (statuses cs ls now c (numberAt m 1 4));
+    first = λ h. rw (establish-exactly d .0 h .1 .1) (statuses cs ls now c id);
     acted = acted;
-    told = told;
+    told = λ h. rw (reply-byte tables sent (establish-exactly d .0 h .0) 5 (rw (acted h) (told-status d .0)), acted h) (told-status d .1);
   }
     where
-      acted : explain tables sent .decided ≡ ofEstablish d → plan tables sent ≡ planEstablish tables c (numberAt m 1 4) random d
+      acted : explain tables sent .decided ≡ ofEstablish d → plan tables sent ≡ planEstablish tables c id random d
       acted h = let is = establish-exactly d .0 h in plan-establish (is .0) (is .1 .0) ∙ rw (is .1 .1)
-
-      told : explain tables sent .decided ≡ ofEstablish d → statusOf d ≡ byteAt (step tables sent .reply) 5
-      told h =
-          let is = told-status (numberAt m 1 4) d in
-          rw (reply-byte tables sent (establish-exactly d .0 h .0) 5 (rw (acted h) (is .0)), acted h) (is .1)
 
 -- Nothing is named of any other call, and of one that a check stops.
 asking : (tables : Tables) (call : Call) → AsksDecision call → asked tables call ≡ undecided → ⊥

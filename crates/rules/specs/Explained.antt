@@ -16,7 +16,7 @@ use Rattle.rules.specs.Calls.{Call, opening, message, closing, timeOf, c
 use Rattle.rules.specs.Plans.{planLease, planEstablish, plan}
 use Rattle.rules.specs.Charges.{charged, cost}
 use Rattle.rules.specs.Step.{step}
-use Rattle.rules.specs.Reasons.{conditionOf, statusOf, undecided, ofLease, ofEstablish, explain}
+use Rattle.rules.specs.Reasons.{conditionOf, statusOf, ofLease, ofEstablish, explain}
 use Rattle.rules.specs.Refusals.{Applies}
 use Rattle.rules.specs.Effects.{HoldsNone, HasSpare, NewCookie, FreeCandidate, LeaseConditions, Statuses}
 use Rattle.rules.specs.Laws.{Accepted}
@@ -36,30 +36,24 @@ AsksDecision (opening now c reply) = ⊥
 AsksDecision (message now c m random reply relay) = (typeOf m ≡ 2) ⊎ (typeOf m ≡ 6)
 AsksDecision (closing now c relay) = ⊥
 
--- A lease: the decision is named exactly of a done message of type 2; its condition is the first that fails, the plan acted by it, and the
--- caller is told by it.
-pub record LeaseNamed (tables : Tables) (now c : ℕ) (m random reply relay : List ℕ) (d : LeaseDecision) : Type 0 where
-  pub exactly : (explain tables (message now c m random reply relay) .decided ≡ ofLease d)
-      ↔ (Accepted tables (message now c m random reply relay) × ((typeOf m ≡ 2) × (d ≡ decideLease (tables .leases) now c random)))
-  pub first : explain tables (message now c m random reply relay) .decided ≡ ofLease d
-      → FirstFailing (tables .leases) now c random (conditionOf d)
-  pub acted : explain tables (message now c m random reply relay) .decided ≡ ofLease d
-      → plan tables (message now c m random reply relay) ≡ planLease tables now c d
-  -- byte 1 of the reply is "accepted"
-  pub told : explain tables (message now c m random reply relay) .decided ≡ ofLease d
-      → (conditionOf d ≡ 0) ↔ (byteAt (step tables (message now c m random reply relay) .reply) 1 ≡ 1)
+-- A lease, of connection c by message m: the decision is named exactly of a done message of type 2; its condition is the first that fails, the
+-- plan acted by it, and the caller is told by it, in byte 1 of the reply, "accepted".
+pub record LeaseNamed (tables : Tables) (call : Call) (now c : ℕ) (m random : List ℕ) (d : LeaseDecision) : Type 0 where
+  pub exactly : (explain tables call .decided ≡ ofLease d)
+      ↔ (Accepted tables call × ((typeOf m ≡ 2) × (d ≡ decideLease (tables .leases) now c random)))
+  pub first : explain tables call .decided ≡ ofLease d → FirstFailing (tables .leases) now c random (conditionOf d)
+  pub acted : explain tables call .decided ≡ ofLease d → plan tables call ≡ planLease tables now c d
+  pub told : explain tables call .decided ≡ ofLease d → (conditionOf d ≡ 0) ↔ (byteAt (step tables call .reply) 1 ≡ 1)
 
--- A session: the same of type 6; byte 5 of the reply is the status.
-pub record EstablishNamed (tables : Tables) (now c : ℕ) (m random reply relay : List ℕ) (d : EstablishDecision) : Type 0 where
-  pub exactly : (explain tables (message now c m random reply relay) .decided ≡ ofEstablish d)
-      ↔ (Accepted tables (message now c m random reply relay)
+-- A session: the same of type 6, with the status, which is byte 5 of the reply.
+pub record EstablishNamed (tables : Tables) (call : Call) (now c : ℕ) (m random : List ℕ) (d : EstablishDecision) : Type 0 where
+  pub exactly : (explain tables call .decided ≡ ofEstablish d)
+      ↔ (Accepted tables call
       × ((typeOf m ≡ 6) × (d ≡ decideEstablish (tables .connections) (tables .leases) now c (numberAt m 1 4))))
-  pub first : explain tables (message now c m random reply relay) .decided ≡ ofEstablish d
+  pub first : explain tables call .decided ≡ ofEstablish d
       → Statuses (tables .connections) (tables .leases) c (rowOfId (tables .leases) now (partnerOf c) (numberAt m 1 4)) d
-  pub acted : explain tables (message now c m random reply relay) .decided ≡ ofEstablish d
-      → plan tables (message now c m random reply relay) ≡ planEstablish tables c (numberAt m 1 4) random d
-  pub told : explain tables (message now c m random reply relay) .decided ≡ ofEstablish d
-      → statusOf d ≡ byteAt (step tables (message now c m random reply relay) .reply) 5
+  pub acted : explain tables call .decided ≡ ofEstablish d → plan tables call ≡ planEstablish tables c (numberAt m 1 4) random d
+  pub told : explain tables call .decided ≡ ofEstablish d → statusOf d ≡ byteAt (step tables call .reply) 5
 
 -- the tables with k units more in partner p's allowance
 unfoldable pub credited : Tables → ℕ → ℕ → Tables

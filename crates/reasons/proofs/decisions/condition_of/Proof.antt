@@ -1,7 +1,4 @@
 -- `condition_of`: a number for each case.
-use mathlib.Core.Path.{_≡_}
-use Rattle.rules.specs.Reasons.{conditionOf}
-use Rattle.leases.specs.Leases.{meaning}
 use borrow.Author.Needs.{needs}
 use Rattle.reasons.proofs.decisions.condition_of.Statement.{statement}
 use Rattle.reasons.proofs.decisions.condition_of.Tie as tie
