@@ -13,6 +13,7 @@ mod serve;
 mod stop;
 mod write;
 
+use std::fmt::Display;
 use std::io;
 use std::sync::mpsc::Receiver;
 use std::sync::Arc;
@@ -26,7 +27,7 @@ use mio::{Events, Interest, Poll, Token};
 use crate::buffer_pool::BufferPool;
 use crate::connection::Connection;
 use crate::limits::Limits;
-use crate::log::{self, Log, Place};
+use crate::log::{self, Log, Place, Said};
 use crate::output::Output;
 use crate::port::{Listeners, Port};
 use crate::random::Random;
@@ -213,8 +214,12 @@ impl EventLoop {
         self.earliest = self.earliest.min(deadline);
     }
 
-    fn log_connection(&self, number: usize, kind: &'static str, text: impl std::fmt::Display) {
+    fn log_connection(&self, number: usize, kind: &'static str, text: impl Display) {
+        self.log_connection_with(number, kind, || Said { text, shortfall: None });
+    }
+
+    fn log_connection_with<T: Display>(&self, number: usize, kind: &'static str, say: impl FnOnce() -> Said<T>) {
         let peer = self.connections[number].as_ref().map(|connection| connection.address);
-        self.log.record(log::Event { kind, place: Place::Connection(number) }, peer, text);
+        self.log.record_with(log::Event { kind, place: Place::Connection(number) }, peer, say);
     }
 }
