@@ -44,7 +44,7 @@ enum Command {
 
 /// Why a command ended without doing what it was asked for.
 pub enum Failure {
-    /// The arguments are wrong, or a file is in the way: exit status 2.
+    /// The arguments are wrong, or a file is in the way or isn't what it has to be: exit status 2.
     Usage(String),
     /// It was tried and didn't succeed: exit status 1.
     Failed(String),

@@ -58,7 +58,7 @@ impl Explanation {
             Some(units) => After::Short(units),
             None => After::Left(headroom.unsigned_abs()),
         };
-        (charged != 0).then(|| Allowance { cost, level: cost.saturating_add_signed(headroom), after })
+        (charged == 1).then(|| Allowance { cost, level: cost.saturating_add_signed(headroom), after })
     }
 
     /// Whether the call is one that nobody pays for. A check before the allowance's leaves it open.

@@ -85,17 +85,6 @@ enum Kind {
     Close,
 }
 
-impl Kind {
-    /// As the command line has it.
-    fn word(self) -> &'static str {
-        match self {
-            Self::Open => "open",
-            Self::Message => "message",
-            Self::Close => "close",
-        }
-    }
-}
-
 pub fn run(arguments: Arguments) -> Outcome {
     let Arguments { state, call, options } = arguments;
     let connection = options.checked_for(call)?;

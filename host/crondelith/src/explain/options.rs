@@ -55,23 +55,30 @@ pub struct Options {
 impl Options {
     /// Finds options that don't suit the call before anything is read. Gives the connection, which every call has.
     pub fn checked_for(&self, call: Kind) -> Result<u64, Failure> {
-        self.check_calls(call)?;
+        self.check_suited(call)?;
         if call == Kind::Message {
             self.check_message()?;
         }
         self.connection.ok_or_else(|| Failure::Usage("'--connection' has to be given".into()))
     }
 
-    fn check_calls(&self, call: Kind) -> Outcome {
-        let options: [(&str, bool, &[Kind]); 5] = [
-            ("--hex", self.hex.is_some(), &[Kind::Message]),
-            ("--file", self.file.is_some(), &[Kind::Message]),
-            ("--random", self.random.is_some(), &[Kind::Message]),
-            ("--reply-length", self.reply_length.is_some(), &[Kind::Open, Kind::Message]),
-            ("--relay-length", self.relay_length.is_some(), &[Kind::Message, Kind::Close]),
+    fn check_suited(&self, call: Kind) -> Outcome {
+        let is_message = call == Kind::Message;
+        let unsuited = [
+            ("'--hex' is an option of 'message'", self.hex.is_some() && !is_message),
+            ("'--file' is an option of 'message'", self.file.is_some() && !is_message),
+            ("'--random' is an option of 'message'", self.random.is_some() && !is_message),
+            (
+                "'--reply-length' is an option of 'open' and 'message'",
+                self.reply_length.is_some() && call == Kind::Close,
+            ),
+            (
+                "'--relay-length' is an option of 'message' and 'close'",
+                self.relay_length.is_some() && call == Kind::Open,
+            ),
         ];
-        match options.iter().find(|(_, given, calls)| *given && !calls.contains(&call)) {
-            Some((option, ..)) => Err(Failure::Usage(format!("'{option}' is no option of '{}'", call.word()))),
+        match unsuited.iter().find(|(_, unsuited)| *unsuited) {
+            Some((why, _)) => Err(Failure::Usage((*why).into())),
             None => Ok(()),
         }
     }

@@ -60,10 +60,10 @@ fn buffers(action: &Action) -> String {
 fn malformed(message: &[u8]) -> String {
     let Some(kind) = message.first() else { return "it is empty, and a message begins with its type".into() };
     match KINDS.iter().find(|(of, ..)| of == kind) {
-        Some((_, name, form)) => format!("its first byte is that of a {name}, which has {form}"),
+        Some((_, name, form)) => format!("a message of type {kind} ({name}) has {form}"),
         None => {
             let types = KINDS.map(|(of, ..)| of.to_string()).join(", ");
-            format!("its first byte, the type, is {kind}, and peers send types {types}")
+            format!("it has type {kind}, and peers send types {types}")
         }
     }
 }

@@ -1,5 +1,7 @@
 //! What decides a lease and a session.
 
+use std::fs;
+
 use codec::Message;
 use serde_json::json;
 
@@ -32,6 +34,26 @@ fn the_random_bytes_of_a_lease_decide_as_the_relay_would() {
         let object = explain_message(&state, connection, "0200", &["--random", &random(cookie, candidate)]);
         assert_has(&object, json!({ "check": 0, "request": "lease", "condition": condition }));
     }
+}
+
+#[test]
+fn random_bytes_that_are_not_given_are_fresh() {
+    let (relay, state) = relay("explain_fresh");
+    let mut holder = peer(&relay);
+    let (id, cookie) = lease(&mut holder);
+    let _second = peer(&relay);
+    await_saved(|| explain_message(&state, SECOND, KEEPALIVE, &[])["check"] == 0);
+    // A lease of id 0 whose cookie is zeros: it would stop one that came with zeros.
+    let mut bytes = fs::read(&state).expect("a state");
+    let row = [&id.to_be_bytes()[..], &[FIRST as u8, 0, 0, 0], &cookie].concat();
+    let place = bytes.windows(row.len()).position(|bytes| bytes == row).expect("the lease");
+    let (id, cookie) = (place..place + 4, place + 8..place + row.len());
+    bytes[id].fill(0);
+    bytes[cookie].fill(0);
+    let copy = state.with_extension("copy");
+    fs::write(&copy, bytes).expect("a copy");
+    assert_eq!(explain_message(&copy, SECOND, "0200", &["--random", &"00".repeat(80)])["condition"], 3);
+    assert_eq!(explain_message(&copy, SECOND, "0200", &[])["condition"], 0);
 }
 
 #[test]
