@@ -1,7 +1,8 @@
-//! `crondelith`: a relay for remote support, a peer to try it with, a demonstration and a benchmark.
+//! `crondelith`: a relay for remote support, a peer to try it with, what its answers mean, a demonstration and a benchmark.
 
 mod bench;
 mod demo;
+mod explain;
 mod output;
 mod peer;
 mod serve;
@@ -30,6 +31,7 @@ struct Cli {
 enum Command {
     Serve(serve::Arguments),
     Peer(peer::Arguments),
+    Explain(explain::Arguments),
     Demo(demo::Arguments),
     Bench(bench::Arguments),
     /// A process of the benchmark's own
@@ -42,7 +44,7 @@ enum Command {
 
 /// Why a command ended without doing what it was asked for.
 pub enum Failure {
-    /// The arguments are wrong, or a file is in the way: exit status 2.
+    /// The arguments are wrong, or a file is in the way or isn't what it has to be: exit status 2.
     Usage(String),
     /// It was tried and didn't succeed: exit status 1.
     Failed(String),
@@ -55,6 +57,7 @@ fn main() -> ExitCode {
     let outcome = match Cli::parse().command {
         Command::Serve(arguments) => serve::run(arguments),
         Command::Peer(arguments) => peer::run(arguments),
+        Command::Explain(arguments) => explain::run(arguments),
         Command::Demo(arguments) => demo::run(arguments),
         Command::Bench(arguments) => bench::run(arguments),
         Command::BenchRelay { words } => bench::peers::run_child(&words),

@@ -34,17 +34,19 @@ for a refusal, so this is what follows from one:
   permitted then (7)         the connection is closed
   a ninth connection         waits a tenth of a second for a number, and is closed
 
-Each has a log line on stderr, with the time and the peer's address; from the eleventh line of a
-kind and connection on they are summed up, every 5 seconds. At most some 160 KiB wait for a
-connection that reads slowly: beyond that its senders wait too. A connection is closed that takes
-less than 16 KiB of what waits for it in 30 seconds, doesn't answer the relay's version in 10, or
-leaves a frame unfinished for 30; one whose peer has vanished, after one to five minutes. The kernel
-tells of what is taken in lumps, so a peer should read 10 KB a second or more.
+Each has a log line on stderr, with the time and the peer's address, and of a message that waits
+how many units are missing; from the eleventh line of a kind and connection on they are summed up,
+every 5 seconds. At most some 160 KiB wait for a connection that reads slowly: beyond that its
+senders wait too. A connection is closed that takes less than 16 KiB of what waits for it in 30
+seconds, doesn't answer the relay's version in 10, or leaves a frame unfinished for 30; one whose
+peer has vanished, after one to five minutes. The kernel tells of what is taken in lumps, so a peer
+should read 10 KB a second or more.
 
 With '--state' the three tables are in FILE: they are loaded at the start, saved twice a second when
 they have changed, and at the end. Leases and allowances go on; connections are gone. What a killed
 relay did in its last second is lost. Only one relay can use a file; beside it stand FILE.lock and,
-for moments, FILE.new. A file of another size is an error and is left as it is.
+for moments, FILE.new. A file of another size is an error and is left as it is. 'crondelith explain'
+tells from FILE what the relay would answer to a call, and why.
 
 The relay's clock is the machine's at the start (or the state's, if that is later) and goes on by
 itself; that the machine's time was set meanwhile is a line in the log.

@@ -22,6 +22,13 @@ pub struct Reason {
     pub headroom: i64,
 }
 
+impl Reason {
+    /// What the partner is short of, if that is what stops the call.
+    pub fn shortfall(&self) -> Option<u64> {
+        (self.headroom < 0).then(|| self.headroom.unsigned_abs())
+    }
+}
+
 pub const LEASE: u32 = 1;
 pub const ESTABLISH: u32 = 2;
 

@@ -2,6 +2,9 @@
 
 use std::time::{Duration, Instant, SystemTime, UNIX_EPOCH};
 
+/// Readings are below it.
+pub const CLOCK_LIMIT: u64 = 1 << 40;
+
 pub trait Clock: Send {
     /// Looks at the time, once in a turn of the loop.
     fn refresh(&mut self) {}

@@ -5,6 +5,7 @@
 //! out. A thread each for the log and the state file keep a slow terminal or disk from holding it up.
 
 mod buffer_pool;
+pub mod calls;
 mod clock;
 mod connection;
 mod descriptors;
@@ -24,10 +25,12 @@ mod state_file;
 mod statistics;
 mod turns;
 
-pub use clock::{Clock, JumpingClock, SystemClock};
+pub use clock::{Clock, JumpingClock, SystemClock, CLOCK_LIMIT};
 pub use limits::Limits;
-pub use log::{Event, Log, LogFormat, Place};
+pub use log::{Event, Log, LogFormat, Place, Said};
 pub use port::{bind, bind_free, Listeners};
+pub use refusal::{Consequence, Refusal};
+pub use relay::Tables;
 pub use server::{Server, Settings, Stopper};
 pub use statistics::Statistics;
 

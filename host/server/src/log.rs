@@ -42,6 +42,13 @@ pub struct Event {
     pub place: Place,
 }
 
+/// What a line says.
+pub struct Said<T> {
+    pub text: T,
+    /// Units that the partner is short of, as the text says too: in JSON they have a field.
+    pub shortfall: Option<u64>,
+}
+
 pub struct Log {
     format: LogFormat,
     write: Box<dyn Fn(&str) + Send + Sync>,
@@ -73,6 +80,11 @@ impl Log {
 
     /// Writes a line or, in a flood, counts it.
     pub fn record(&self, event: Event, peer: Option<SocketAddr>, text: impl Display) {
+        self.record_with(event, peer, || Said { text, shortfall: None });
+    }
+
+    /// Likewise. What is only counted isn't worked out.
+    pub fn record_with<T: Display>(&self, event: Event, peer: Option<SocketAddr>, say: impl FnOnce() -> Said<T>) {
         let mut state = self.lock();
         let count = state.counts.entry(event).or_default();
         if count.written == LINES_EACH {
@@ -80,7 +92,8 @@ impl Log {
             return;
         }
         count.written += 1;
-        state.add(self.line(event, peer, &text));
+        let Said { text, shortfall } = say();
+        state.add(self.line(event, peer, &text, shortfall));
         self.changed.notify_all();
     }
 
@@ -91,16 +104,16 @@ impl Log {
         counts.retain(|_, count| count.only_counted > 0);
         for (event, count) in &mut counts {
             let more = std::mem::take(&mut count.only_counted);
-            state.add(self.line(*event, None, &format_args!("'{}' {more} times more", event.kind)));
+            state.add(self.line(*event, None, &format_args!("'{}' {more} times more", event.kind), None));
         }
         state.counts = counts;
     }
 
-    fn line(&self, event: Event, peer: Option<SocketAddr>, text: &dyn Display) -> String {
+    fn line(&self, event: Event, peer: Option<SocketAddr>, text: &dyn Display, shortfall: Option<u64>) -> String {
         let time = humantime::format_rfc3339_millis(SystemTime::now());
         match self.format {
             LogFormat::Text => text_line(time, event.place, peer, text),
-            LogFormat::Json => json_line(time, event, peer, text),
+            LogFormat::Json => json_line(time, event, peer, text, shortfall),
         }
     }
 
@@ -113,7 +126,7 @@ impl Log {
         lines.iter().for_each(|line| (self.write)(line));
         if lost > 0 {
             let event = Event { kind: "lost", place: Place::Relay };
-            (self.write)(&self.line(event, None, &format_args!("{lost} lines are lost, they came too fast")));
+            (self.write)(&self.line(event, None, &format_args!("{lost} lines are lost, they came too fast"), None));
         }
     }
 
@@ -187,7 +200,13 @@ fn text_line(time: impl Display, place: Place, peer: Option<SocketAddr>, text: &
     line
 }
 
-fn json_line(time: impl Display, event: Event, peer: Option<SocketAddr>, text: &dyn Display) -> String {
+fn json_line(
+    time: impl Display,
+    event: Event,
+    peer: Option<SocketAddr>,
+    text: &dyn Display,
+    shortfall: Option<u64>,
+) -> String {
     let (partner, connection) = event.place.numbers();
     let fields = [
         ("time", Some(json!(time.to_string()))),
@@ -196,6 +215,7 @@ fn json_line(time: impl Display, event: Event, peer: Option<SocketAddr>, text: &
         ("connection", connection.map(|number| json!(number))),
         ("peer", peer.map(|address| json!(address.to_string()))),
         ("text", Some(json!(text.to_string()))),
+        ("shortfall", shortfall.map(|units| json!(units))),
     ];
     let known = fields.into_iter().filter_map(|(name, value)| Some((name.to_owned(), value?)));
     Value::Object(known.collect::<Map<_, _>>()).to_string()

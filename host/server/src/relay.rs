@@ -1,7 +1,9 @@
 //! The engine's tables and their clock.
 
+use engine::reasons::{self, Reason};
 use engine::relay::{self, Answer};
 
+use crate::calls::{relay_length, REPLY_LENGTH};
 use crate::clock::Clock;
 use crate::refusal::Refusal;
 use crate::{CONNECTIONS_EACH, PARTNERS};
@@ -29,6 +31,13 @@ impl Tables {
     /// The latest reading that a call was accepted at.
     pub fn clock(&self) -> u64 {
         self.0[Self::SIZE - CLOCK_LENGTH..].iter().fold(0, |number, byte| number << 8 | u64::from(*byte))
+    }
+
+    /// Only to be read.
+    pub fn view(&self) -> reasons::Tables<'_> {
+        let (connections, rest) = self.0.split_at(relay::CONNECTIONS);
+        let (leases, allowances) = rest.split_at(relay::LEASES);
+        reasons::Tables { connections, leases, allowances }
     }
 
     fn lend(&mut self) -> relay::Tables<'_> {
@@ -94,6 +103,19 @@ impl Relay {
     pub fn close(&mut self, connection: usize, relay: &mut [u8]) -> Result<Answer, Refusal> {
         let now = self.now();
         accepted(relay::close(self.tables.lend(), now, connection as u64, relay))
+    }
+
+    /// Why an open was refused: this is about its reading, the latest.
+    pub fn explain_open(&self, connection: usize) -> Reason {
+        reasons::open(self.tables.view(), self.latest, connection as u64, REPLY_LENGTH as u64)
+    }
+
+    /// Why a message was refused, likewise.
+    pub fn explain_message(&self, connection: usize, message: &[u8], random: &[u8; relay::RANDOM]) -> Reason {
+        let lengths = [REPLY_LENGTH, relay_length(message.len())].map(|length| length as u64);
+        let [reply_length, relay_length] = lengths;
+        let tables = self.tables.view();
+        reasons::message(tables, self.latest, connection as u64, message, random, reply_length, relay_length)
     }
 
     /// A reading for a call. The latest is taken again if the clock went back, which the engine would refuse.

@@ -6,10 +6,9 @@ use std::io::{self, Write};
 use std::os::unix::fs::OpenOptionsExt;
 use std::path::{Path, PathBuf};
 
+use crate::clock::CLOCK_LIMIT;
 use crate::relay::Tables;
 
-/// Readings are below it.
-const CLOCK_LIMIT: u64 = 1 << 40;
 /// The tables hold keys and cookies, which are nobody else's business.
 const MODE: u32 = 0o600;
 
@@ -23,10 +22,13 @@ pub struct StateFile {
 impl StateFile {
     /// Takes the file for this relay, and gives the tables that it holds, if it exists.
     pub fn open(path: &Path) -> io::Result<(Self, Option<Tables>)> {
-        let named = |error| io::Error::other(format!("the state file '{}': {error}", path.display()));
+        let named = |error| named(path, error);
         let path = resolve(path).map_err(named)?;
         let lock = lock(&beside(&path, ".lock")).map_err(named)?;
-        let tables = read(&path).map_err(named)?;
+        let tables = match read(&path) {
+            Err(error) if error.kind() == io::ErrorKind::NotFound => None,
+            other => Some(other.map_err(named)?),
+        };
         Ok((Self { path, _lock: lock }, tables))
     }
 
@@ -53,6 +55,22 @@ impl StateFile {
     }
 }
 
+impl Tables {
+    /// The tables that a state file holds. It isn't taken: a relay may use it meanwhile. The error of a file that holds none
+    /// is of the kind InvalidData.
+    pub fn load(path: &Path) -> io::Result<Self> {
+        resolve(path).and_then(|path| read(&path)).map_err(|error| named(path, error))
+    }
+}
+
+fn named(path: &Path, error: io::Error) -> io::Error {
+    io::Error::new(error.kind(), format!("the state file '{}': {error}", path.display()))
+}
+
+fn no_state(why: impl Into<String>) -> io::Error {
+    io::Error::new(io::ErrorKind::InvalidData, why.into())
+}
+
 /// Where the file is, or will be: a link stays one. What is there must be a plain file of the tables' size.
 fn resolve(path: &Path) -> io::Result<PathBuf> {
     match path.symlink_metadata() {
@@ -62,27 +80,22 @@ fn resolve(path: &Path) -> io::Result<PathBuf> {
     let path = path.canonicalize()?;
     let found = path.metadata()?;
     if !found.is_file() {
-        return Err(io::Error::other("it isn't a plain file"));
+        return Err(no_state("it isn't a plain file"));
     }
     if found.len() != Tables::SIZE as u64 {
         let (length, size) = (found.len(), Tables::SIZE);
-        return Err(io::Error::other(format!("it has {length} bytes and not {size}, so it isn't a state file")));
+        return Err(no_state(format!("it has {length} bytes and not {size}, so it isn't a state file")));
     }
     Ok(path)
 }
 
-/// The file's tables; None if it doesn't exist.
-fn read(path: &Path) -> io::Result<Option<Tables>> {
-    let bytes = match fs::read(path) {
-        Ok(bytes) => bytes,
-        Err(error) if error.kind() == io::ErrorKind::NotFound => return Ok(None),
-        Err(error) => return Err(error),
-    };
-    let tables = Tables::from_bytes(&bytes).ok_or_else(|| io::Error::other("it changes its size"))?;
+/// The file's tables.
+fn read(path: &Path) -> io::Result<Tables> {
+    let tables = Tables::from_bytes(&fs::read(path)?).ok_or_else(|| no_state("it changes its size"))?;
     if tables.clock() >= CLOCK_LIMIT {
-        return Err(io::Error::other(format!("its clock is at {}, out of range", tables.clock())));
+        return Err(no_state(format!("its clock is at {}, out of range", tables.clock())));
     }
-    Ok(Some(tables))
+    Ok(tables)
 }
 
 fn write(path: &Path, tables: &Tables) -> io::Result<File> {
@@ -115,6 +128,7 @@ mod tests {
     use std::cell::RefCell;
     use std::fs;
     use std::io;
+    use std::path::Path;
 
     use super::StateFile;
     use crate::relay::Tables;
@@ -139,6 +153,24 @@ mod tests {
         };
         file.save_and(&tables(2), sync).expect("saved");
         assert_eq!(*synced.borrow(), [(false, false), (true, true)]);
+    }
+
+    #[test]
+    fn a_file_in_use_can_be_read_and_what_is_none_has_its_kind_of_error() {
+        let folder = tempfile::tempdir().expect("a folder");
+        let path = folder.path().join("state");
+        let error = |path: &Path| Tables::load(path).err().expect("an error");
+        assert_eq!(error(&path).kind(), io::ErrorKind::NotFound);
+        assert!(error(&path).to_string().starts_with(&format!("the state file '{}': ", path.display())));
+        let (file, _) = StateFile::open(&path).expect("a state file");
+        file.save(&tables(1)).expect("saved");
+        assert!(Tables::load(&path).expect("tables") == tables(1));
+        assert_eq!(error(folder.path()).kind(), io::ErrorKind::InvalidData);
+        let late = [1; Tables::SIZE];
+        for bytes in [&late[1..], &late] {
+            fs::write(&path, bytes).expect("a file");
+            assert_eq!(error(&path).kind(), io::ErrorKind::InvalidData);
+        }
     }
 
     #[test]

@@ -1,10 +1,11 @@
 //! What the log looks like, how a flood is summed up, and that a log which nobody takes holds up nobody.
 
+use std::cell::Cell;
 use std::sync::{mpsc, Arc, Mutex};
 use std::thread;
 use std::time::Duration;
 
-use server::{Event, Log, LogFormat, Place};
+use server::{Event, Log, LogFormat, Place, Said};
 
 const REFUSED: Event = Event { kind: "refused", place: Place::Connection(17) };
 const TURNED_AWAY: Event = Event { kind: "turned away", place: Place::Partner(3) };
@@ -65,6 +66,32 @@ fn a_json_line_is_an_object_with_what_is_known() {
     assert!(objects[0]["time"].as_str().is_some_and(|time| time.ends_with('Z')));
     assert_eq!(objects[1]["partner"], 3);
     assert!(objects[1].get("connection").is_none() && objects[1].get("peer").is_none());
+}
+
+#[test]
+fn a_shortfall_has_a_field_in_json_only_if_there_is_one() {
+    let (json, text) = (Kept::new(LogFormat::Json), Kept::new(LogFormat::Text));
+    for kept in [&json, &text] {
+        kept.log.record_with(REFUSED, None, || Said { text: "12 units short", shortfall: Some(12) });
+        kept.log.record_with(REFUSED, None, || Said { text: "not short", shortfall: None });
+    }
+    let objects: Vec<serde_json::Value> =
+        json.written().iter().map(|line| serde_json::from_str(line).expect("an object")).collect();
+    assert!(objects[0]["shortfall"] == 12 && objects[0]["text"] == "12 units short", "{}", objects[0]);
+    assert!(objects[1].get("shortfall").is_none(), "{}", objects[1]);
+    assert_eq!(text.texts(), ["partner 2, connection 17: 12 units short", "partner 2, connection 17: not short"]);
+}
+
+#[test]
+fn what_is_only_counted_is_not_worked_out() {
+    let kept = Kept::new(LogFormat::Text);
+    let worked_out = Cell::new(0);
+    let say = || {
+        worked_out.set(worked_out.get() + 1);
+        Said { text: "short", shortfall: Some(1) }
+    };
+    (0..1_000).for_each(|_| kept.log.record_with(REFUSED, None, say));
+    assert_eq!((kept.written().len(), worked_out.get()), (10, 10));
 }
 
 #[test]

@@ -6,12 +6,16 @@ use std::net::TcpListener;
 use crate::support::{folder, run, text, PROGRAM};
 
 /// The words that lead to a command, and one of its help.
-const COMMANDS: [(&[&str], &str); 7] = [
+const COMMANDS: [(&[&str], &str); 11] = [
     (&[], "crondelith <COMMAND>"),
     (&["serve"], "crondelith serve [OPTIONS]"),
     (&["peer"], "crondelith peer [OPTIONS] <COMMAND>"),
     (&["peer", "receive"], "crondelith peer receive [OPTIONS] <FILE>"),
     (&["peer", "send"], "crondelith peer send [OPTIONS] <ID> <FILE>"),
+    (&["explain"], "crondelith explain [OPTIONS] <STATE> <COMMAND>"),
+    (&["explain", "open"], "crondelith explain <STATE> open [OPTIONS]"),
+    (&["explain", "message"], "crondelith explain <STATE> message [OPTIONS]"),
+    (&["explain", "close"], "crondelith explain <STATE> close [OPTIONS]"),
     (&["demo"], "crondelith demo"),
     (&["bench"], "crondelith bench [OPTIONS]"),
 ];
@@ -38,8 +42,11 @@ fn every_command_has_help() {
 
 #[test]
 fn the_help_shows_every_default() {
-    let defaults: [(&str, &[&str]); 2] =
-        [("serve", &["127.0.0.1", "7700", "none", "text"]), ("peer", &["127.0.0.1", "7700", "0", "never", "16384"])];
+    let defaults: [(&str, &[&str]); 3] = [
+        ("serve", &["127.0.0.1", "7700", "none", "text"]),
+        ("peer", &["127.0.0.1", "7700", "0", "never", "16384"]),
+        ("explain", &["the file's clock", "80 fresh ones", "64", "the message's length, or 64 if that is more"]),
+    ];
     for (command, defaults) in defaults {
         let help = run(&["help", command]).stdout;
         let shown: Vec<_> = help.split("[default: ").skip(1).filter_map(|rest| rest.split(']').next()).collect();
@@ -55,7 +62,7 @@ fn the_version_is_printed() {
 }
 
 /// Arguments, and the reason why they are wrong.
-const WRONG: [(&[&str], &str); 31] = [
+const WRONG: [(&[&str], &str); 49] = [
     (&[], "'crondelith' requires a subcommand"),
     (&["dance"], "'dance' wasn't recognized"),
     (&["help", "dance"], "'dance' wasn't recognized"),
@@ -88,6 +95,30 @@ const WRONG: [(&[&str], &str); 31] = [
     (&["peer", "--port", "7", "receive", "file", "--relay=localhost:7700"], "a port in '--relay'"),
     (&["peer", "receive", "file", "--message-size", "9"], "'--message-size' is an option of 'send'"),
     (&["peer", "--force", "send", "5", "file"], "'--force' is an option of 'receive'"),
+    (&["explain"], "'crondelith explain' requires a subcommand"),
+    (&["explain", "state"], "'crondelith explain' requires a subcommand"),
+    (&["explain", "open", "--connection", "1"], "<STATE>"),
+    (&["explain", "state", "dance"], "'dance' which wasn't expected"),
+    (&["explain", "state", "open"], "'--connection' has to be given"),
+    (&["explain", "state", "open", "--connection", "one"], "'one' for '--connection <N>'"),
+    (&["explain", "state", "open", "--connection", "18446744073709551616"], "number too large"),
+    (&["explain", "state", "close", "--connection", "1", "--time", "now"], "'now' for '--time <SECONDS>'"),
+    (&["explain", "state", "open", "--connection", "1", "--hex", "02"], "'--hex' is an option of 'message'"),
+    (
+        &["explain", "state", "open", "--connection", "1", "--relay-length", "9"],
+        "'--relay-length' is an option of 'message' and 'close'",
+    ),
+    (&["explain", "state", "close", "--connection", "1", "--file", "f"], "'--file' is an option of 'message'"),
+    (&["explain", "state", "close", "--connection", "1", "--random", "00"], "'--random' is an option of 'message'"),
+    (
+        &["explain", "state", "close", "--connection", "1", "--reply-length", "9"],
+        "'--reply-length' is an option of 'open' and 'message'",
+    ),
+    (&["explain", "state", "message", "--connection", "1"], "the message has to be given, by '--hex' or '--file'"),
+    (&["explain", "state", "message", "--hex", "020"], "'020' has an odd number of digits"),
+    (&["explain", "state", "message", "--random", "0g"], "'g' isn't a hex digit"),
+    (&["explain", "state", "--hex", "02", "message", "--file", "f"], "'--hex' and '--file' can't both be given"),
+    (&["explain", "state", "message", "--hex", "0200"], "'--connection' has to be given"),
 ];
 
 #[test]
@@ -117,6 +148,24 @@ fn options_may_stand_anywhere() {
         assert_eq!(ended.status, Some(1), "{arguments:?}: {}", ended.stderr);
         assert!(ended.stderr.starts_with("crondelith: 127.0.0.1 port 3: "), "{arguments:?}: {}", ended.stderr);
         assert_eq!(ended.stderr.lines().count(), 1, "{arguments:?}: {}", ended.stderr);
+    }
+}
+
+#[test]
+fn options_of_an_explanation_may_stand_anywhere() {
+    let state = folder("anywhere").join("missing");
+    let (explain, state, hex) = (&["explain"][..], &[text(&state)][..], &["--hex", "0200"][..]);
+    let (message, connection) = (&["message"][..], &["--connection", "1"][..]);
+    for arguments in [
+        [explain, state, message, connection, hex],
+        [explain, connection, state, message, hex],
+        [explain, hex, state, connection, message],
+        [explain, state, hex, message, connection],
+    ] {
+        // All is understood, and the file is looked for.
+        let ended = run(&arguments.concat());
+        assert_eq!(ended.status, Some(1), "{arguments:?}: {}", ended.stderr);
+        assert!(ended.stderr.contains("No such file"), "{arguments:?}: {}", ended.stderr);
     }
 }
 

@@ -3,6 +3,7 @@
 mod arguments;
 mod bad_days;
 mod demo;
+mod explain;
 mod outputs;
 mod serve;
 mod signals;

@@ -1,11 +1,13 @@
 //! SIGINT, SIGTERM and SIGHUP.
 
+use std::fs::File;
 use std::net::{TcpListener, TcpStream};
+use std::os::unix::fs::OpenOptionsExt;
 use std::process::Command;
 use std::time::Duration;
 
 use crate::support::{
-    files, folder, full_pipe, program, start_unheard, text, write_file, Ended, Relay, Running, WHILE,
+    becomes_true, files, folder, full_pipe, program, start_unheard, text, write_file, Ended, Relay, Running, WHILE,
 };
 
 /// After so long a second signal ends the program at once.
@@ -89,6 +91,30 @@ fn the_demonstration_and_the_benchmark_are_interrupted() {
             assert_ne!(running.line(), "", "a first line");
             interrupt(running, signal, "interrupted");
         }
+    }
+}
+
+/// Opening a pipe for writing fails with this as long as nobody reads it.
+const NONBLOCKING: i32 = 0o4000;
+
+#[test]
+fn an_explanation_is_interrupted_while_its_message_does_not_come() {
+    let folder = folder("interrupted_explanation");
+    let (state, pipe) = (folder.join("state"), folder.join("pipe"));
+    let relay = Relay::start(&["--state", text(&state)]);
+    relay.program.signal("TERM");
+    assert_eq!(relay.program.end().status, Some(0));
+    assert!(Command::new("mkfifo").arg(&pipe).status().expect("mkfifo").success());
+    for signal in SIGNALS {
+        let words = ["explain", text(&state), "message", "--connection", "0", "--file", text(&pipe)];
+        let explanation = Running::start(&mut program(&words));
+        let mut silent = None;
+        let is_read = || {
+            silent = File::options().write(true).custom_flags(NONBLOCKING).open(&pipe).ok();
+            silent.is_some()
+        };
+        assert!(becomes_true(Duration::from_secs(10), is_read));
+        interrupt(explanation, signal, "interrupted");
     }
 }
 

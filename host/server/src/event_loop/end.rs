@@ -3,9 +3,8 @@
 use std::io::{self, Read};
 use std::net::Shutdown;
 
-use engine::relay::BUFFER;
-
 use super::EventLoop;
+use crate::calls::relay_length;
 use crate::connection::{End, Phase};
 
 impl EventLoop {
@@ -70,7 +69,7 @@ impl EventLoop {
     /// Closes a connection in the engine; its session, if it has one, ends. When the relay itself ends the other side
     /// isn't told so: it sees the end of its own connection, and so the reason.
     fn close(&mut self, number: usize, quietly: bool) {
-        let room = &mut self.scratch[..BUFFER];
+        let room = &mut self.scratch[..relay_length(0)];
         match self.relay.close(number, room) {
             Ok(answer) => {
                 self.partner_of(number).statistics.done += 1;

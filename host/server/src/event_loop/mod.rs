@@ -13,20 +13,21 @@ mod serve;
 mod stop;
 mod write;
 
+use std::fmt::Display;
 use std::io;
 use std::sync::mpsc::Receiver;
 use std::sync::Arc;
 use std::time::{Duration, Instant};
 
-use engine::relay::BUFFER;
 use frames::MESSAGE_LIMIT;
 use mio::event::Event;
 use mio::{Events, Interest, Poll, Token};
 
 use crate::buffer_pool::BufferPool;
+use crate::calls::REPLY_LENGTH;
 use crate::connection::Connection;
 use crate::limits::Limits;
-use crate::log::{self, Log, Place};
+use crate::log::{self, Log, Place, Said};
 use crate::output::Output;
 use crate::port::{Listeners, Port};
 use crate::random::Random;
@@ -59,7 +60,7 @@ pub struct EventLoop {
     spare_inputs: BufferPool,
     spare_outputs: BufferPool,
     /// Lent for what is replied.
-    reply: [u8; BUFFER],
+    reply: [u8; REPLY_LENGTH],
     /// Lent for what is relayed where the output isn't known beforehand.
     scratch: Box<[u8]>,
     partners: Vec<Partner>,
@@ -120,7 +121,7 @@ impl EventLoop {
             outputs: (0..CONNECTIONS).map(|_| Output::default()).collect(),
             spare_inputs: BufferPool::new(input::CAPACITY),
             spare_outputs: BufferPool::new(output::CAPACITY),
-            reply: [0; BUFFER],
+            reply: [0; REPLY_LENGTH],
             scratch: vec![0; MESSAGE_LIMIT].into(),
             partners: listeners.into_ports().into_iter().map(partner).collect(),
             first_partner: 0,
@@ -213,8 +214,12 @@ impl EventLoop {
         self.earliest = self.earliest.min(deadline);
     }
 
-    fn log_connection(&self, number: usize, kind: &'static str, text: impl std::fmt::Display) {
+    fn log_connection(&self, number: usize, kind: &'static str, text: impl Display) {
+        self.log_connection_with(number, kind, || Said { text, shortfall: None });
+    }
+
+    fn log_connection_with<T: Display>(&self, number: usize, kind: &'static str, say: impl FnOnce() -> Said<T>) {
         let peer = self.connections[number].as_ref().map(|connection| connection.address);
-        self.log.record(log::Event { kind, place: Place::Connection(number) }, peer, text);
+        self.log.record_with(log::Event { kind, place: Place::Connection(number) }, peer, say);
     }
 }

@@ -2,19 +2,19 @@
 
 use std::time::Duration;
 
-use engine::relay::{Answer, BUFFER, RANDOM};
+use engine::relay::{Answer, RANDOM};
 
 use super::EventLoop;
+use crate::calls::{cost, relay_length};
 use crate::connection::{Connection, End, Hold, Phase};
+use crate::log::Said;
 use crate::message::{DATA_SEND, ESTABLISH_REQUEST, LEASE_REQUEST};
-use crate::refusal::{Consequence, Refusal};
+use crate::refusal::{Consequence, Refusal, ShortRefusal};
 
 /// What a partner's messages may cost in a turn if no other has any: so much that the turn's own cost hardly counts.
 const TURN: usize = 131_072;
 /// What they may cost together if several partners have any: so little that a neighbour doesn't wait long for the next.
 const SHARED_TURN: usize = 32_768;
-/// What a message costs beside its length.
-const FIXED_COST: usize = 32;
 /// The messages that random bytes matter to.
 const NEEDS_RANDOM: [u8; 2] = [LEASE_REQUEST, ESTABLISH_REQUEST];
 /// Lent to the others.
@@ -53,7 +53,7 @@ impl EventLoop {
         let credit = self.partner_of(number).turns.credit(number);
         let mut spent = 0;
         while spent < share {
-            let cost = FIXED_COST + self.next_length(number);
+            let cost = cost(self.next_length(number));
             if spent + cost > credit {
                 self.partner_of(number).turns.pass_on(number);
                 break;
@@ -101,7 +101,7 @@ impl EventLoop {
                 self.count_done(number, 0);
                 self.deliver_reply(number, answer);
             }
-            Err(refusal) => self.refused(number, 0, refusal),
+            Err(refusal) => self.refused(number, &NOT_RANDOM, refusal),
         }
     }
 
@@ -119,14 +119,17 @@ impl EventLoop {
         };
         // Data is written where it is to go.
         let output = connection.paired.filter(|_| kind == Some(DATA_SEND));
-        let room = length.max(BUFFER);
+        let room = relay_length(length);
         let relay = match output {
             Some(paired) => self.outputs[paired].room(room, &mut self.spare_outputs),
             None => &mut self.scratch[..room],
         };
         let answer = match self.relay.message(number, message, random, &mut self.reply, relay) {
             Ok(answer) => answer,
-            Err(refusal) => return self.refused(number, length, refusal),
+            Err(refusal) => {
+                let random = *random;
+                return self.refused(number, &random, refusal);
+            }
         };
         connection.take();
         self.count_done(number, length);
@@ -163,14 +166,15 @@ impl EventLoop {
         }
     }
 
-    fn refused(&mut self, number: usize, length: usize, refusal: Refusal) {
+    /// What a connection offered, with these random bytes, is refused. It has still to be taken.
+    fn refused(&mut self, number: usize, random: &[u8; RANDOM], refusal: Refusal) {
         match refusal.consequence() {
-            Consequence::Wait => self.wait_for_allowance(number, refusal),
+            Consequence::Wait => self.wait_for_allowance(number, random, refusal),
             Consequence::Drop => {
                 self.partner_of(number).statistics.dropped += 1;
                 self.log_connection(number, "dropped", refusal);
+                let pause = PAUSE * self.next_length(number).div_ceil(PAUSE_BYTES).max(1) as u32;
                 self.connections[number].iter_mut().for_each(Connection::take);
-                let pause = PAUSE * length.div_ceil(PAUSE_BYTES).max(1) as u32;
                 self.hold(number, Hold::Pause(self.now + pause));
             }
             Consequence::Close => self.end(number, End::Refused(refusal)),
@@ -178,7 +182,7 @@ impl EventLoop {
     }
 
     /// A level changes only with the second. Until then the connection keeps its partner's turn.
-    fn wait_for_allowance(&mut self, number: usize, refusal: Refusal) {
+    fn wait_for_allowance(&mut self, number: usize, random: &[u8; RANDOM], refusal: Refusal) {
         let retry = self.now + self.relay.clock().until_next();
         let retry = *self.retry.get_or_insert(retry);
         self.wake_by(retry);
@@ -186,8 +190,21 @@ impl EventLoop {
         let Some(connection) = &mut self.connections[number] else { return };
         if !std::mem::replace(&mut connection.waits, true) {
             self.partner_of(number).statistics.waited += 1;
-            self.log_connection(number, "waits", refusal);
+            self.log_connection_with(number, "waits", || {
+                let shortfall = self.shortfall(number, random);
+                Said { text: ShortRefusal { refusal, shortfall }, shortfall }
+            });
         }
+    }
+
+    /// What the partner is short of for what a connection has just offered with these random bytes.
+    fn shortfall(&self, number: usize, random: &[u8; RANDOM]) -> Option<u64> {
+        let connection = self.connections[number].as_ref()?;
+        let reason = match connection.phase {
+            Phase::Opening => self.relay.explain_open(number),
+            _ => self.relay.explain_message(number, connection.input.message()?, random),
+        };
+        reason.shortfall()
     }
 
     /// Takes nothing from a connection for a while.

@@ -10,6 +10,12 @@ use crate::support::{assert_stops, Relay, Socket, LIMIT};
 /// Data that costs a whole second's refill.
 static DATA: [u8; 65_536 - 33] = [7; 65_536 - 33];
 
+/// The log's line of a wait of partner 0.
+fn waits(connection: usize, short: u32) -> String {
+    let used_up = format!("the partner's allowance is used up ({short} units short)");
+    format!("partner 0, connection {connection}: refused with 9, {used_up}: the message waits")
+}
+
 /// A session of partner 0 in which the last of four sends waits for the allowance, and the clock stands.
 struct Waiting {
     clock: Standing,
@@ -24,13 +30,11 @@ impl Waiting {
         let relay = Relay::with_clock(clock.clone());
         let (mut caller, mut holder) = (relay.peer(0), relay.peer(0));
         caller.establish(&mut holder);
-        // Opens, answers, lease and establish have left room for three.
+        // Opens (32 each), answers (34), lease (34) and establish (37) have left room for three.
         for _ in 0..4 {
             caller.send(Message::DataSend { data: &DATA });
         }
-        relay.await_line(
-            "partner 0, connection 0: refused with 9, the partner's allowance is used up: the message waits",
-        );
+        relay.await_line(&waits(0, 203));
         Self { clock, relay, caller, holder }
     }
 
@@ -98,6 +102,22 @@ fn a_new_connection_waits_for_its_open_to_be_allowed() {
     assert!(!late.is_closed(), "it waits");
     clock.advance(1);
     late.stream.set_read_timeout(Some(LIMIT)).expect("a timeout");
+    assert_eq!(late.receive(), encode(&Message::ProtocolVersion { major: 1, minor: 0 }));
+}
+
+#[test]
+fn an_open_that_waits_has_its_shortfall_in_the_log() {
+    let clock = Standing::default();
+    let relay = Relay::with_clock(clock.clone());
+    let mut peer = relay.peer(0);
+    // What is left after the open and the version answer, in keepalives: 25 units are left, too few for an open.
+    let count = (262_144 - 32 - 34) / 33;
+    (0..count).for_each(|_| peer.send(Message::Keepalive));
+    relay.await_done(0, 2 + count);
+    let mut late = relay.socket(0);
+    relay.await_line(&waits(1, 7));
+    assert_eq!(relay.server.statistics()[0].waited, 1);
+    clock.advance(1);
     assert_eq!(late.receive(), encode(&Message::ProtocolVersion { major: 1, minor: 0 }));
 }
 

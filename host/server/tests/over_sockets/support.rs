@@ -90,6 +90,11 @@ impl Relay {
         self.wait_until(|| self.server.statistics()[partner].waited >= count, "no call waits");
     }
 
+    /// Waits until so many calls of the partner are done.
+    pub fn await_done(&self, partner: usize, count: u64) {
+        self.wait_until(|| self.server.statistics()[partner].done >= count, "the calls aren't done");
+    }
+
     fn wait_until(&self, condition: impl Fn() -> bool, otherwise: &str) {
         let end = Instant::now() + LIMIT;
         while !condition() {

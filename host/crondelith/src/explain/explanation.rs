@@ -1,0 +1,95 @@
+//! What is told of a call: the engine's reason, and what follows from it.
+
+use engine::reasons::{Reason, ESTABLISH, LEASE};
+use server::{Refusal, Tables};
+
+use super::call::{Action, Call};
+
+pub struct Explanation {
+    pub call: Call,
+    /// That of the tables: the time of the last call that was done.
+    pub clock: u64,
+    pub reason: Reason,
+    /// When a call that can't be paid now can be.
+    pub payable_at: Option<u64>,
+}
+
+/// What a charged call costs, and what its partner has.
+#[derive(Clone, Copy, Debug, PartialEq, Eq)]
+pub struct Allowance {
+    pub cost: u64,
+    pub level: u64,
+    pub after: After,
+}
+
+#[derive(Clone, Copy, Debug, PartialEq, Eq)]
+pub enum After {
+    /// The partner can pay, and keeps this.
+    Left(u64),
+    /// It is short of this.
+    Short(u64),
+}
+
+/// What decides a call that is done.
+#[derive(Clone, Copy, Debug, PartialEq, Eq)]
+pub enum Decision {
+    /// A lease, with the first condition that fails, or 0.
+    Lease(u32),
+    /// A session with this id's holder, with the status.
+    Establish { id: u32, status: u32 },
+}
+
+impl Explanation {
+    pub fn new(call: Call, tables: &Tables) -> Self {
+        let reason = call.reason(tables.view());
+        let payable_at = reason.shortfall().and_then(|_| call.payable_at(tables.view()));
+        Self { call, clock: tables.clock(), reason, payable_at }
+    }
+
+    /// The check that stops the call, if any.
+    pub fn refusal(&self) -> Option<Refusal> {
+        (self.reason.check != 0).then_some(Refusal(self.reason.check))
+    }
+
+    pub fn allowance(&self) -> Option<Allowance> {
+        let Reason { charged, headroom, .. } = self.reason;
+        let cost = self.call.cost() as u64;
+        let after = match self.reason.shortfall() {
+            Some(units) => After::Short(units),
+            None => After::Left(headroom.unsigned_abs()),
+        };
+        (charged == 1).then(|| Allowance { cost, level: cost.saturating_add_signed(headroom), after })
+    }
+
+    /// Whether the call is one that nobody pays for. A check before the allowance's leaves it open.
+    pub fn is_free(&self) -> Option<bool> {
+        match (self.reason.check, self.reason.charged) {
+            (_, 1) => Some(false),
+            (0, _) => Some(true),
+            _ => None,
+        }
+    }
+
+    pub fn decision(&self) -> Option<Decision> {
+        let Reason { request, condition, .. } = self.reason;
+        match request {
+            LEASE => Some(Decision::Lease(condition)),
+            ESTABLISH => Some(Decision::Establish { id: self.id()?, status: condition }),
+            _ => None,
+        }
+    }
+
+    /// The id of a request to establish a session.
+    fn id(&self) -> Option<u32> {
+        match codec::decode(self.call.message()?) {
+            Some(codec::Message::EstablishRequest { id }) => Some(id),
+            _ => None,
+        }
+    }
+
+    /// What a running relay does then with a message. The first five checks are about what it brings itself.
+    pub fn consequence(&self) -> Option<server::Consequence> {
+        let refusal = self.refusal().filter(|Refusal(check)| *check > 5)?;
+        matches!(self.call.action, Action::Message { .. }).then(|| refusal.consequence())
+    }
+}

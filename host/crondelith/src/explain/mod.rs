@@ -1,0 +1,108 @@
+//! `crondelith explain`: what a relay would answer to a call and why, from its state file.
+
+mod call;
+mod explanation;
+mod hex;
+mod json;
+mod message;
+mod options;
+#[cfg(test)]
+mod tests;
+mod text;
+mod words;
+
+use std::io;
+use std::path::{Path, PathBuf};
+
+use clap::{Args, Subcommand};
+use server::Tables;
+
+use crate::signals::Watch;
+use crate::{say, Failure, Outcome};
+use call::Call;
+use explanation::Explanation;
+use options::Options;
+
+const ABOUT: &str = "\
+Tells what a relay would answer to a call, and why, from the state file that 'serve --state' keeps.
+Nothing is changed, neither the file nor a relay that uses it.";
+
+const OPEN_ABOUT: &str = "\
+Tells whether a connection would be opened, and why not.";
+
+const MESSAGE_ABOUT: &str = "\
+Tells what would become of a message, and why. Its bytes are those within a frame, from its type on:
+without the frame's own length and type.";
+
+const CLOSE_ABOUT: &str = "\
+Tells whether a connection would be closed, and why not.";
+
+const DETAILS: &str = "\
+It says which check stops the call, or that it would be done; whether a lease would be accepted, or
+which of the four conditions fails first; whether a session would be established, or the status why
+not; what the call costs and what the partner has; and what is left, or how much is missing and
+after how many seconds it can be paid. For instance, a lease request from connection 9, now:
+
+  crondelith explain relay.state message --connection 9 --hex 0200 --time $(date +%s)
+
+The file's clock is the time of the last call that was done. Later the allowances have refilled, and
+leases may have ended.
+
+STATE can be read at any time, by the relay's user only. A relay that runs saves it twice a second,
+with its connections as they are then. It closes them all when it ends, and one that was killed has
+them closed when it starts again: so of a relay that has ended every message is answered with 4.
+
+With '--json' the same is one object. It has what applies of these: call, connection, partner, time,
+clock, message_length, message_type; check, done, reason, meaning, follows, request, condition,
+status, decision; free, cost, level, headroom, left, shortfall, payable_at, payable_after.
+
+The exit status is 0 if all this could be told, also of a call that would be refused; 1 if a file
+can't be read, also when interrupted before (Ctrl-C); and 2 if the arguments are wrong, STATE isn't
+a state file, or a message has more than 1 MiB.";
+
+/// Tell what a relay would answer to a call, and why
+#[derive(Args)]
+#[command(long_about = ABOUT, after_long_help = DETAILS, arg_required_else_help = false)]
+pub struct Arguments {
+    /// The relay's state file
+    state: PathBuf,
+    #[command(subcommand)]
+    call: Kind,
+    #[command(flatten)]
+    options: Options,
+}
+
+#[derive(Clone, Copy, PartialEq, Eq, Subcommand)]
+enum Kind {
+    /// A connection is opened
+    #[command(long_about = OPEN_ABOUT, after_long_help = DETAILS)]
+    Open,
+    /// A message comes from a connection
+    #[command(long_about = MESSAGE_ABOUT, after_long_help = DETAILS)]
+    Message,
+    /// A connection is closed
+    #[command(long_about = CLOSE_ABOUT, after_long_help = DETAILS)]
+    Close,
+}
+
+pub fn run(arguments: Arguments) -> Outcome {
+    let Arguments { state, call, options } = arguments;
+    let connection = options.checked_for(call)?;
+    // A message from stdin may take long to come.
+    Watch::start("interrupted")?;
+    let tables = load(&state)?;
+    let call = Call { connection, time: options.time.unwrap_or(tables.clock()), action: options.action(call)? };
+    let explanation = Explanation::new(call, &tables);
+    match options.json {
+        true => say(explanation.to_json()),
+        false => say(explanation),
+    }
+    Ok(())
+}
+
+fn load(path: &Path) -> Result<Tables, Failure> {
+    Tables::load(path).map_err(|error| match error.kind() {
+        io::ErrorKind::InvalidData => Failure::Usage(error.to_string()),
+        _ => Failure::Failed(error.to_string()),
+    })
+}

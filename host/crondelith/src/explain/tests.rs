@@ -1,0 +1,247 @@
+//! The engine's reasons as they are told.
+
+use engine::reasons::{Reason, ESTABLISH, LEASE};
+use serde_json::{json, Value};
+use server::CONNECTIONS_EACH;
+
+use super::call::{Action, Call, CONNECTIONS};
+use super::explanation::Explanation;
+
+const CLOCK: u64 = 1_794_812_909;
+const NOW: &str = "Time:       1794812909 (2026-11-16T07:08:29Z), the file's clock";
+/// The second of partner 1.
+const CONNECTION: u64 = CONNECTIONS_EACH as u64 + 1;
+const NOT_CHARGED: &str = "Cost:       nothing, a call refused so isn't charged";
+
+const OPEN: Action = Action::Open { reply_length: 64 };
+const CLOSE: Action = Action::Close { relay_length: 64 };
+
+fn message(message: &[u8]) -> Action {
+    Action::Message { message: message.to_vec(), random: vec![0; 80], reply_length: 64, relay_length: 64 }
+}
+
+/// A call of the connection, at the clock's time.
+fn explanation(action: Action, reason: Reason) -> Explanation {
+    let call = Call { connection: CONNECTION, time: CLOCK, action };
+    let payable_at = reason.shortfall().map(|units| CLOCK + units.div_ceil(65_536));
+    Explanation { call, clock: CLOCK, reason, payable_at }
+}
+
+fn refused(check: u32) -> Reason {
+    Reason { check, request: 0, condition: 0, charged: 0, headroom: 0 }
+}
+
+fn charged(check: u32, headroom: i64) -> Reason {
+    Reason { check, request: 0, condition: 0, charged: 1, headroom }
+}
+
+fn decided(request: u32, condition: u32) -> Reason {
+    Reason { check: 0, request, condition, charged: 1, headroom: 1_000 }
+}
+
+/// The line with this label.
+fn line(explanation: &Explanation, label: &str) -> Option<String> {
+    let text = explanation.to_string();
+    let found = text.lines().find_map(|line| line.strip_prefix(label)).map(|rest| rest.trim().to_owned());
+    found
+}
+
+fn assert_text(explanation: &Explanation, lines: &[&str]) {
+    assert_eq!(explanation.to_string().lines().collect::<Vec<_>>(), lines);
+}
+
+#[test]
+fn a_call_that_is_done_has_its_cost_and_what_is_left() {
+    let told = explanation(OPEN, charged(0, 262_112));
+    assert_text(
+        &told,
+        &[
+            &format!("Call:       open of connection {CONNECTION} of partner 1"),
+            NOW,
+            "Answer:     0, it would be done",
+            "Cost:       32 units",
+            "Allowance:  the partner has 262,144 units and keeps 262,112",
+        ],
+    );
+    let expected = json!({
+        "call": "open", "connection": CONNECTION, "partner": 1, "time": CLOCK, "clock": CLOCK, "check": 0, "done": true,
+        "free": false, "cost": 32, "level": 262_144, "headroom": 262_112, "left": 262_112,
+    });
+    assert_eq!(told.to_json(), expected);
+    // Equal cost and level passes.
+    let told = explanation(message(&[13]), charged(0, 0));
+    assert_eq!(line(&told, "Allowance:").expect("a level"), "the partner has 33 units and keeps 0");
+    assert_eq!((&told.to_json()["left"], told.to_json().get("shortfall")), (&json!(0), None));
+}
+
+#[test]
+fn what_is_missing_is_told_with_the_time_when_it_is_there() {
+    let told = explanation(OPEN, charged(9, -12));
+    assert_text(
+        &told,
+        &[
+            &format!("Call:       open of connection {CONNECTION} of partner 1"),
+            NOW,
+            "Answer:     9, it would be refused: the partner's allowance is used up",
+            "Meaning:    the call costs more than the partner has at that time",
+            "Cost:       32 units",
+            "Allowance:  the partner has 20 units, 12 too few",
+            "Payable:    in 1 second, at 1794812910 (2026-11-16T07:08:30Z), if the partner makes no charged call meanwhile",
+        ],
+    );
+    let expected = json!({
+        "call": "open", "connection": CONNECTION, "partner": 1, "time": CLOCK, "clock": CLOCK, "check": 9, "done": false,
+        "reason": "the partner's allowance is used up",
+        "meaning": "the call costs more than the partner has at that time",
+        "free": false, "cost": 32, "level": 20, "headroom": -12, "shortfall": 12,
+        "payable_at": CLOCK + 1, "payable_after": 1,
+    });
+    assert_eq!(told.to_json(), expected);
+    let data = [11; 65_534];
+    let told = explanation(message(&data), charged(9, -65_566));
+    let payable = line(&told, "Payable:").expect("a time");
+    assert!(payable.starts_with("in 2 seconds, at 1794812911 ("), "{payable}");
+    assert_eq!(line(&told, "Allowance:").expect("a level"), "the partner has 0 units, 65,566 too few");
+    assert_eq!(line(&told, "Follows:").expect("what the relay does"), "the message waits");
+    let never = Explanation { payable_at: None, ..told };
+    assert_eq!(line(&never, "Payable:").expect("words"), "at no time that the relay's clock can have");
+    assert_eq!(never.to_json().get("payable_after"), None);
+}
+
+#[test]
+fn a_free_call_costs_nothing() {
+    for action in [CLOSE, message(&[9])] {
+        let told = explanation(action, Reason { charged: 0, ..charged(0, 0) });
+        assert_eq!(line(&told, "Cost:").expect("a cost"), "nothing, the call is free");
+        assert_eq!(line(&told, "Allowance:"), None);
+        assert_eq!((&told.to_json()["free"], told.to_json().get("cost")), (&json!(true), None));
+    }
+}
+
+#[test]
+fn each_check_has_words_for_the_call() {
+    let cases: [(u32, Action, &str); 15] = [
+        (2, OPEN, "the last call was done at 1794812909, and the relay's clock doesn't go back"),
+        (3, OPEN, &format!("connections have the numbers 0 to {}", CONNECTIONS - 1)),
+        (4, OPEN, "the connection isn't closed, and only a closed one can be opened"),
+        (4, CLOSE, "the connection is closed, as all are when a relay has ended or starts"),
+        (5, Action::Open { reply_length: 63 }, "the reply buffer needs 64 bytes or more and has 63"),
+        (5, Action::Close { relay_length: 0 }, "the relay buffer needs 64 bytes or more and has 0"),
+        (6, message(&[]), "it is empty, and a message begins with its type"),
+        (6, message(&[2, 2]), "a message of type 2 (lease request) has 2 bytes, 2 and 0, or 26: 2, 1 and a cookie"),
+        (6, message(&[3, 0]), "it has type 3, and peers send types 1, 2, 4, 6, 9, 11, 13"),
+        (6, message(&[200]), "it has type 200, and peers send types 1, 2, 4, 6, 9, 11, 13"),
+        (6, message(&[13, 0]), "a message of type 13 (keepalive) has 1 byte"),
+        (7, message(&[1, 1]), "the connection has answered the relay's version already"),
+        (7, message(&[13]), "the connection hasn't answered the relay's version yet, and nothing else may come before"),
+        (8, message(&[9]), "data and the end of a session are for a connection in session, and this one is in none"),
+        (
+            8,
+            message(&[11, 1]),
+            "data and the end of a session are for a connection in session, and this one is in none",
+        ),
+    ];
+    for (check, action, meaning) in cases {
+        let told = explanation(action, refused(check));
+        assert_eq!(line(&told, "Meaning:").as_deref(), Some(meaning));
+        assert!(
+            line(&told, "Answer:").is_some_and(|answer| answer.starts_with(&format!("{check}, it would be refused: ")))
+        );
+        assert!(told.to_string().lines().any(|line| line == NOT_CHARGED), "{told}");
+        let json = told.to_json();
+        assert!(json["check"] == check && json["done"] == false && json["meaning"] == meaning, "{json}");
+        assert!(json.get("free").is_none() && json.get("headroom").is_none(), "{json}");
+    }
+}
+
+#[test]
+fn a_message_s_buffers_are_all_told() {
+    let mut long = message(&[11; 1_000]);
+    if let Action::Message { random, relay_length, .. } = &mut long {
+        random.truncate(79);
+        *relay_length = u64::MAX;
+    }
+    assert_eq!(
+        line(&explanation(long, refused(5)), "Meaning:").expect("words"),
+        "there must be 80 random bytes and there are 79; the reply buffer needs 64 bytes or more and has 64; \
+         the relay buffer needs 1,000 bytes or more and has 18,446,744,073,709,551,615"
+    );
+}
+
+#[test]
+fn what_a_running_relay_does_is_told_of_messages_that_peers_can_send() {
+    let follows = |action, check| line(&explanation(action, refused(check)), "Follows:");
+    for (check, what) in
+        [(6, "the connection is closed"), (7, "the connection is closed"), (8, "the message is dropped")]
+    {
+        assert_eq!(follows(message(&[11]), check).as_deref(), Some(what));
+        assert_eq!(explanation(message(&[11]), refused(check)).to_json()["follows"], what);
+    }
+    assert_eq!(follows(message(&[11]), 4), None);
+    assert_eq!(follows(OPEN, 4), None);
+}
+
+#[test]
+fn each_condition_of_a_lease_has_words() {
+    let words = ["accepted", "holds a live lease already", "no row left", "the cookie of a live lease", "every id"];
+    for (condition, words) in (0..).zip(words) {
+        let told = explanation(message(&[2, 0]), decided(LEASE, condition));
+        let lease = line(&told, "Lease:").expect("a decision");
+        assert!(lease.contains(words) && lease.starts_with("not") == (condition != 0), "{lease}");
+        assert!(condition == 0 || lease.contains(&format!("(condition {condition})")), "{lease}");
+        let json = told.to_json();
+        assert!(json["request"] == "lease" && json["condition"] == condition && json["decision"] == lease, "{json}");
+        assert!(json.get("status").is_none(), "{json}");
+    }
+}
+
+#[test]
+fn each_status_has_words() {
+    let words =
+        ["established (status 0)", "no id 5", "offline", "another session", "a session already", "this peer's own"];
+    for (status, words) in (0..).zip(words) {
+        let told = explanation(message(&[6, 0, 0, 0, 5]), decided(ESTABLISH, status));
+        let session = line(&told, "Session:").expect("a decision");
+        assert!(session.contains(words) && session.contains(&format!("(status {status})")), "{session}");
+        let json = told.to_json();
+        assert!(json["request"] == "establish" && json["status"] == status && json["decision"] == session, "{json}");
+        assert!(json.get("condition").is_none(), "{json}");
+    }
+}
+
+#[test]
+fn any_numbers_have_words() {
+    let call = Call { connection: u64::MAX, time: u64::MAX, action: OPEN };
+    let told = Explanation { call, clock: 0, reason: refused(2), payable_at: None };
+    assert_eq!(line(&told, "Call:").expect("a call"), "open of connection 18446744073709551615");
+    assert_eq!(line(&told, "Time:").expect("a time"), "18446744073709551615; the file's clock is at 0");
+    assert_eq!(line(&told, "Meaning:").expect("words"), "times are below 1,099,511,627,776");
+    let json = told.to_json();
+    assert_eq!((&json["connection"], &json["time"], json.get("partner")), (&json!(u64::MAX), &json!(u64::MAX), None));
+    // The last second whose year has four digits, and the next.
+    for (time, words) in [(253_402_300_799, "(9999-12-31T23:59:59Z)"), (253_402_300_800, "253402300800;")] {
+        let call = Call { connection: 0, time, action: OPEN };
+        let told = Explanation { call, clock: 0, reason: charged(0, 0), payable_at: None };
+        assert!(line(&told, "Time:").is_some_and(|line| line.contains(words)), "{told}");
+    }
+}
+
+#[test]
+fn a_message_is_described_by_its_length_and_type() {
+    let cases: [(&[u8], &str); 4] = [
+        (&[], "0 bytes"),
+        (&[9], "1 byte, type 9 (session end)"),
+        (&[7; 1_000], "1,000 bytes, type 7"),
+        (&[2, 0], "2 bytes, type 2 (lease request)"),
+    ];
+    for (bytes, words) in cases {
+        let told = explanation(message(bytes), refused(4));
+        assert_eq!(
+            line(&told, "Call:").expect("a call"),
+            format!("message from connection {CONNECTION} of partner 1: {words}")
+        );
+        let json = told.to_json();
+        assert_eq!(json["message_length"], bytes.len());
+        assert_eq!(json.get("message_type").and_then(Value::as_u64), bytes.first().map(|kind| u64::from(*kind)));
+    }
+}
