@@ -1,6 +1,7 @@
 -- Reasons as C has them: the rules' reasons as numbers.
 use Prim.Native.Nat.{ℕ, _<_}
 use mathlib.Core.Path.{_≡_}
+use mathlib.Core.Logic.{_↔_}
 use mathlib.Core.Bool.{true}
 use mathlib.Core.Option.{Option, none, some}
 use mathlib.Core.List.{List}
@@ -8,6 +9,8 @@ use lib.IntN.{ℤ, pos}
 use lib.ListN.{length}
 use Rattle.svsc.specs.Messages.{fromPeer}
 use Rattle.rules.specs.Sizes.{connectionCount, leasesSize, randomBytes}
+use Rattle.rules.specs.Leases.{LeaseDecision}
+use Rattle.rules.specs.Sessions.{EstablishDecision}
 use Rattle.rules.specs.Reasons as rules
 use Rattle.reasons.specs.declared.Reason.{Reason}
 use Rattle.reasons.specs.declared.Named.{Named}
@@ -19,14 +22,14 @@ requestOf (rules.ofLease d) = 1
 requestOf (rules.ofEstablish d) = 2
 
 -- the condition, or the status
-abbrev pub numberOf : rules.Decided → ℕ
-numberOf rules.undecided = 0
-numberOf (rules.ofLease d) = rules.conditionOf d
-numberOf (rules.ofEstablish d) = rules.statusOf d
+abbrev pub conditionNumber : rules.Decided → ℕ
+conditionNumber rules.undecided = 0
+conditionNumber (rules.ofLease d) = rules.conditionOf d
+conditionNumber (rules.ofEstablish d) = rules.statusOf d
 
 -- what decided a call, as two numbers
 abbrev pub named : rules.Decided → Named
-named d = record { request = requestOf d; condition = numberOf d }
+named d = record { request = requestOf d; condition = conditionNumber d }
 
 -- "elsewhere it says there is none and reports 0"
 abbrev pub chargedOf : Option ℤ → ℕ
@@ -44,8 +47,18 @@ reasonOf check x h =
 abbrev pub coded : rules.Reason → Reason
 coded x = reasonOf (x .check) (named (x .decided)) (x .headroom)
 
+-- what the numbers tell, in both directions: "1 a done lease, 2 a done establish, 0 anything else"; the condition or the status, "else 0"; "1 where
+-- there is a headroom; else 0, and the headroom is 0"
+pub record Tells (x : rules.Reason) (r : Reason) : Type 0 where
+  pub check : r .check ≡ x .check
+  pub lease : (r .request ≡ 1) ↔ ((d : LeaseDecision) × (x .decided ≡ rules.ofLease d) × (r .condition ≡ rules.conditionOf d))
+  pub establish : (r .request ≡ 2) ↔ ((d : EstablishDecision) × (x .decided ≡ rules.ofEstablish d) × (r .condition ≡ rules.statusOf d))
+  pub other : (r .request ≡ 0) ↔ ((x .decided ≡ rules.undecided) × (r .condition ≡ 0))
+  pub charged : (r .charged ≡ 1) ↔ (x .headroom ≡ some (r .headroom))
+  pub free : (r .charged ≡ 0) ↔ ((x .headroom ≡ none) × (r .headroom ≡ pos 0))
+
 -- what is known of a message that has passed checks 1 to 8
-pub record Passed (ls : List ℕ) (c : ℕ) (m random : List ℕ) : Type 0 where
+pub record Judged (ls : List ℕ) (c : ℕ) (m random : List ℕ) : Type 0 where
   pub leases : length ls ≡ leasesSize
   pub known : c < connectionCount
   pub random-size : length random ≡ randomBytes

@@ -9,7 +9,7 @@ ghost use Rattle.rules.specs.Calls.{message};
 ghost use Rattle.rules.specs.Reasons.{conditionOf, statusOf, undecided, asked};
 ghost use Rattle.leases.specs.Leases.{meaning};
 ghost use Rattle.statuses.specs.Decisions.{decidedAs};
-ghost use Rattle.reasons.specs.Coded.{named, Passed};
+ghost use Rattle.reasons.specs.Coded.{named, Judged};
 use crate::Named;
 use leases::LeaseDecision;
 use statuses::EstablishDecision;
@@ -46,7 +46,7 @@ pub fn decided(
     random: &[u8],
     check: u32,
 ) -> Named
-    requires { ⌜ Passed (now leases) c (now m) (now random) ⌝ }
+    requires { ⌜ Judged (now leases) c (now m) (now random) ⌝ }
     ensures { λ r. ⌜ ((al reply relay : List ℕ) → r ≡ named (if eqb check 0 then asked (lent (now (connections .entry))
         (now (leases .entry)) al) (message time c (now (m .entry)) (now (random .entry)) reply relay) else undecided)) ⌝ }
 {

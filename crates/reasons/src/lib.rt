@@ -13,7 +13,7 @@ ghost use Rattle.rules.specs.Calls.{opening, message, closing};
 ghost use Rattle.rules.specs.Sizes.{allowancesSize};
 ghost use Rattle.rules.specs.Checks.{precheck, check};
 ghost use Rattle.rules.specs.Reasons.{explain};
-ghost use Rattle.reasons.specs.Coded.{reasonOf, coded, Passed};
+ghost use Rattle.reasons.specs.Coded.{reasonOf, coded, Judged};
 
 mod decisions; // what decided a message
 
@@ -102,7 +102,7 @@ fn judged(
     random: &[u8],
     number: u32,
 ) -> Reason
-    requires { ⌜ (Passed (now leases) c (now m) (now random)) × (length (now allowances) ≡ allowancesSize) ⌝ }
+    requires { ⌜ (Judged (now leases) c (now m) (now random)) × (length (now allowances) ≡ allowancesSize) ⌝ }
     ensures { λ r. ⌜ ((reply relay : List ℕ)
         → number ≡ check (lent (now (connections .entry)) (now (leases .entry)) (now (allowances .entry)))
         (message time c (now (m .entry)) (now (random .entry)) reply relay)

@@ -13,7 +13,7 @@ use lib.ListN.{length, getD, List·getD-append, List·getD-eq-default}
 use lib.IntN.{ℤ, pos, negsuc, _-ℤ_}
 use borrow.Author.Tests.{eq-eqb, ne-eqb, eqb-true, lt-ltb, le-ltb}
 use Rattle.octets.specs.Octets.{if_then_else_, byteAt, numberAt, bigEndian, put}
-use Rattle.octets.proofs.Tests.{by-test}
+use Rattle.octets.proofs.Tests.{both-left, both-right}
 use Rattle.octets.proofs.Numbers.{length-bigEndian}
 use Rattle.octets.proofs.Stores.{length-put, part-put, numberAt-put, numberAt-behind}
 use Rattle.svsc.specs.Messages.{typeOf, encode}
@@ -27,12 +27,12 @@ use Rattle.rules.specs.Sessions.{EstablishDecision, refusedWith, establi
 use Rattle.rules.specs.Calls.{Call, opening, message, closing, timeOf, callerOf, replyBuffer}
 use Rattle.rules.specs.Plans.{planLease, planEstablish, planMessage, plan}
 use Rattle.rules.specs.Charges.{charged, cost, price, callerLevel}
-use Rattle.rules.specs.Checks.{wrongTime, aboveLevel, firstEight, checks, precheck, check}
+use Rattle.rules.specs.Checks.{wrongTime, wrongState, wrongLengths, notFromPeer, notPermitted, noSession, aboveLevel, firstEight, checks, precheck, check}
 use Rattle.rules.specs.Step.{step, done}
 use Rattle.rules.specs.Reasons.{conditionOf, statusOf, Decided, undecided, ofLease, ofEstablish, asked, decided, headroom, explain}
 use Rattle.rules.specs.Refusals.{Applies}
 use Rattle.rules.specs.Laws.{Accepted}
-use Rattle.rules.specs.Explained.{AsksDecision, LeaseNamed, EstablishNamed, credited, ShortBy, HeadroomExactly}
+use Rattle.rules.specs.Explained.{AsksDecision, LeaseNamed, EstablishNamed, LengthsOnly, credited, ShortBy, HeadroomExactly}
 use Rattle.rules.proofs.Records.{byte-part}
 use Rattle.rules.proofs.Messages.{by-type}
 use Rattle.rules.proofs.Checks.{none-applies, all-pass, at-most, check-verdict, Passed, passed, from-peer}
@@ -40,6 +40,7 @@ use Rattle.rules.proofs.Answers.{answer-is-check, is-done, done-passed}
 use Rattle.rules.proofs.Leases.{first-failing, statuses}
 use Rattle.rules.proofs.Room.{messages-fit}
 use Rattle.rules.proofs.Metered.{price-most, bucket-stored}
+use Rattle.rules.proofs.Refusals.{fails}
 
 -- ---- the check
 
@@ -79,18 +80,18 @@ chosen t u a b = if t then ofLease a else if u then ofEstablish b else undecided
 
 chosen-lease : (t u : Bool) (a : LeaseDecision) (b : EstablishDecision) (d : LeaseDecision) → chosen t u a b ≡ ofLease d → (t ≡ true) × (d ≡ a)
 chosen-lease true u a b d e = (refl, cc)
-chosen-lease false true a b d e = absurd (let z : _≡_ {A = ℕ} 0 1 = cc in omega arith)
-chosen-lease false false a b d e = absurd (let z : _≡_ {A = ℕ} 0 1 = cc in omega arith)
+chosen-lease false true a b d e = (cc, cc)
+chosen-lease false false a b d e = (cc, cc)
 
 chosen-establish : (t u : Bool) (a : LeaseDecision) (b : EstablishDecision) (d : EstablishDecision) → chosen t u a b ≡ ofEstablish d
     → (u ≡ true) × (d ≡ b)
-chosen-establish true u a b d e = absurd (let z : _≡_ {A = ℕ} 0 1 = cc in omega arith)
+chosen-establish true u a b d e = (cc, cc)
 chosen-establish false true a b d e = (refl, cc)
-chosen-establish false false a b d e = absurd (let z : _≡_ {A = ℕ} 0 1 = cc in omega arith)
+chosen-establish false false a b d e = (cc, cc)
 
 chosen-none : (t u : Bool) (a : LeaseDecision) (b : EstablishDecision) → chosen t u a b ≡ undecided → (t ≡ false) × (u ≡ false)
-chosen-none true u a b e = absurd (let z : _≡_ {A = ℕ} 0 1 = cc in omega arith)
-chosen-none false true a b e = absurd (let z : _≡_ {A = ℕ} 0 1 = cc in omega arith)
+chosen-none true u a b e = (cc, cc)
+chosen-none false true a b e = (cc, cc)
 chosen-none false false a b e = (refl, refl)
 
 module _ (tables : Tables) (now c : ℕ) (m random reply relay : List ℕ) where
@@ -215,6 +216,15 @@ nothing-named tables call = (
     go n (yes e) = named-done tables call e ∙ not-asking tables call (λ q. n (e, q))
     go n (no r) = named-refused tables call r
 
+-- Of the buffers only the lengths count.
+pub lengths-only : (tables : Tables) (now c : ℕ) (m random : List ℕ) → LengthsOnly tables now c m random
+unfolding explain decided asked headroom price cost callerLevel check checks precheck firstEight wrongTime wrongState wrongLengths notFromPeer notPermitted noSession aboveLevel
+lengths-only tables now c m random = record {
+  open-alike = λ reply other e. rw e;
+  message-alike = λ reply relay otherReply otherRelay e f. rw (e, f);
+  close-alike = λ relay other e. rw e;
+}
+
 -- ---- the headroom
 
 -- a difference of two numbers
@@ -232,14 +242,18 @@ is-below a b n e = go (decLt a b)
   where
     go : Dec (a < b) → b ≡ a + (n + 1)
     go (yes l) = let f : b - suc a ≡ n = cc (below-zero a b l) in omega arith
-    go (no l) = absurd (let z : _≡_ {A = ℕ} 0 1 = cc (not-below a b (omega arith)) in omega arith)
+    go (no l) = cc (not-below a b (omega arith))
 
 is-rest : (a b n : ℕ) → pos a -ℤ pos b ≡ pos n → a ≡ b + n
 is-rest a b n e = go (decLt a b)
   where
     go : Dec (a < b) → a ≡ b + n
-    go (yes l) = absurd (let z : _≡_ {A = ℕ} 0 1 = cc (below-zero a b l) in omega arith)
+    go (yes l) = cc (below-zero a b l)
     go (no l) = let f : a - b ≡ n = cc (not-below a b (omega arith)) in omega arith
+
+given : {A : Type 0} {x z : A} (t : Bool) → (if t then some x else none) ≡ some z → (t ≡ true) × (x ≡ z)
+given true e = (refl, cc)
+given false e = (cc, cc)
 
 module _ (tables : Tables) (call : Call) where
   open Tables tables using (allowances as al)
@@ -254,14 +268,11 @@ module _ (tables : Tables) (call : Call) where
   known : (z : ℤ) → explain tables call .headroom ≡ some z
       → (precheck tables call ≡ 0) × ((charged call ≡ true) × (pos level -ℤ pos (price tables call) ≡ z))
   unfolding explain headroom
-  known z h = go (eqb (precheck tables call) 0) (charged call) refl refl h
-    where
-      go : (t k : Bool) → eqb (precheck tables call) 0 ≡ t → charged call ≡ k
-          → (if t && k then some (pos level -ℤ pos (price tables call)) else none) ≡ some z
-          → (precheck tables call ≡ 0) × ((charged call ≡ true) × (pos level -ℤ pos (price tables call) ≡ z))
-      go true true e f h = (eqb-true (precheck tables call) 0 e, (f, cc))
-      go true false e f h = absurd (let z : _≡_ {A = ℕ} 0 1 = cc in omega arith)
-      go false k e f h = absurd (let z : _≡_ {A = ℕ} 0 1 = cc in omega arith)
+  known z h =
+      let both = given (eqb (precheck tables call) 0 && charged call) h in (
+        eqb-true (precheck tables call) 0 (both-left (eqb (precheck tables call) 0) (charged call) (both .0)),
+        (both-right (eqb (precheck tables call) 0) (charged call) (both .0), both .1),
+      )
 
   -- "checks 1 to 8 pass"
   eight-pass : (precheck tables call ≡ 0) ↔ ((n : ℕ) → 1 ≤ n → n ≤ 8 → Applies n tables call → ⊥)
@@ -278,9 +289,7 @@ module _ (tables : Tables) (call : Call) where
       among i l = List·getD-append eight (aboveLevel tables call ∷ []) false i l
 
       go : ((n : ℕ) → 1 ≤ n → n ≤ 8 → Applies n tables call → ⊥) → (i : ℕ) → Dec (i < 8) → getD eight i false ≡ false
-      go f i (yes l) =
-          let e : suc i - 1 ≡ i = omega arith in
-          ⊎-elim (λ a. absurd ((rw e at (f (suc i) (omega arith) (omega arith))) (among i l ∙ a))) (λ a. a) (by-test (getD eight i false))
+      go f i (yes l) = sym (among i l) ∙ fails tables call i (f (suc i) (omega arith) (omega arith))
       go f i (no l) = let past : 8 ≤ i = omega arith in List·getD-eq-default eight false past
 
   verdict-is : step tables call .answer .number ≡ verdict (precheck tables call) (charged call) level (price tables call)

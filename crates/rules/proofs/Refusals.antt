@@ -147,7 +147,7 @@ module _ (tables : Tables) (call : Call) where
   unfolding check checks firstEight
   number-at-most = rw (answer-is-check tables call) (at-most 0 (checks tables call))
 
-  fails : (i : ℕ) → (Applies (suc i) tables call → ⊥) → getD (checks tables call) i false ≡ false
+  pub fails : (i : ℕ) → (Applies (suc i) tables call → ⊥) → getD (checks tables call) i false ≡ false
   fails i n =
       let e : suc i - 1 ≡ i = omega arith in
       ⊎-elim (λ h. absurd ((rw e at n) h)) (λ h. h) (by-test (getD (checks tables call) i false))

@@ -166,19 +166,19 @@ candidateIn random k = numberAt random (24 + 4 * k) 4 % 67108864
 abbrev pub FreeId : List ℕ → ℕ → ℕ → Type 0
 FreeId ls now id = (r : ℕ) → r < rowCount → live ls now r ≡ true → idOf ls r ≢ id
 
--- The four conditions of a lease: "the connection holds no live row,
+-- The four conditions of a lease, in 01's order. "the connection holds no live row"
 abbrev pub HoldsNone : List ℕ → ℕ → ℕ → Type 0
 HoldsNone ls now c = (r : ℕ) → ownerOf r ≡ partnerOf c → live ls now r ≡ true → holder ls r ≢ c
 
--- the partner has a row that isn't live,
+-- "the partner has a row that isn't live"
 abbrev pub HasSpare : List ℕ → ℕ → ℕ → Type 0
 HasSpare ls now c = (r : ℕ) × (ownerOf r ≡ partnerOf c) × (live ls now r ≡ false)
 
--- the draw's bytes 0-23 aren't the cookie of a live row of the partner,
+-- "the draw's bytes 0-23 aren't the cookie of a live row of the partner"
 abbrev pub NewCookie : List ℕ → ℕ → ℕ → List ℕ → Type 0
 NewCookie ls now c random = (r : ℕ) → ownerOf r ≡ partnerOf c → live ls now r ≡ true → cookieOf ls r ≢ part random 0 24
 
--- and one of the candidates is free"
+-- "and one of the candidates is free"
 abbrev pub FreeCandidate : List ℕ → ℕ → List ℕ → Type 0
 FreeCandidate ls now random = (k : ℕ) × (k < 14) × FreeId ls now (candidateIn random k)
 

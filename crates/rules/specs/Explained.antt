@@ -6,10 +6,11 @@ use mathlib.Core.Bool.{true}
 use mathlib.Core.Option.{some}
 use mathlib.Core.List.{List}
 use lib.IntN.{ℤ, pos, negsuc, _-ℤ_}
+use lib.ListN.{length}
 use Rattle.octets.specs.Octets.{byteAt, numberAt, bigEndian, put}
 use Rattle.svsc.specs.Messages.{typeOf}
 use Rattle.allowance.specs.Bucket.{levelNow}
-use Rattle.rules.specs.Tables.{Tables, partnerOf, allowanceAt, bucketOf}
+use Rattle.rules.specs.Tables.{Tables, lent, partnerOf, allowanceAt, bucketOf}
 use Rattle.rules.specs.Leases.{LeaseDecision, decideLease}
 use Rattle.rules.specs.Sessions.{EstablishDecision, rowOfId, decideEstablish}
 use Rattle.rules.specs.Calls.{Call, opening, message, closing, timeOf, callerOf}
@@ -36,8 +37,8 @@ AsksDecision (opening now c reply) = ⊥
 AsksDecision (message now c m random reply relay) = (typeOf m ≡ 2) ⊎ (typeOf m ≡ 6)
 AsksDecision (closing now c relay) = ⊥
 
--- A lease, of connection c by message m: the decision is named exactly of a done message of type 2; its condition is the first that fails, the
--- plan acted by it, and the caller is told by it, in byte 1 of the reply, "accepted".
+-- A lease, of connection c by message m: the decision is named exactly of a done message of type 2, and its condition is the first that fails.
+-- The plan acted by it (all that fail have one plan), and byte 1 of the reply, "accepted", tells it to the caller.
 pub record LeaseNamed (tables : Tables) (call : Call) (now c : ℕ) (m random : List ℕ) (d : LeaseDecision) : Type 0 where
   pub exactly : (explain tables call .decided ≡ ofLease d)
       ↔ (Accepted tables call × ((typeOf m ≡ 2) × (d ≡ decideLease (tables .leases) now c random)))
@@ -55,13 +56,22 @@ pub record EstablishNamed (tables : Tables) (call : Call) (now c : ℕ) (m rando
   pub acted : explain tables call .decided ≡ ofEstablish d → plan tables call ≡ planEstablish tables c (numberAt m 1 4) random d
   pub told : explain tables call .decided ≡ ofEstablish d → statusOf d ≡ byteAt (step tables call .reply) 5
 
+-- "a call with its draw and tray lengths": of the buffers that a call writes to, only the lengths count
+pub record LengthsOnly (tables : Tables) (now c : ℕ) (m random : List ℕ) : Type 0 where
+  pub open-alike : (reply other : List ℕ) → length reply ≡ length other
+      → explain tables (opening now c reply) ≡ explain tables (opening now c other)
+  pub message-alike : (reply relay otherReply otherRelay : List ℕ) → length reply ≡ length otherReply → length relay ≡ length otherRelay
+      → explain tables (message now c m random reply relay) ≡ explain tables (message now c m random otherReply otherRelay)
+  pub close-alike : (relay other : List ℕ) → length relay ≡ length other
+      → explain tables (closing now c relay) ≡ explain tables (closing now c other)
+
 -- the tables with k units more in partner p's allowance
 unfoldable pub credited : Tables → ℕ → ℕ → Tables
-credited tables p k = record {
-  connections = tables .connections;
-  leases = tables .leases;
-  allowances = put (tables .allowances) (allowanceAt p) (bigEndian 8 (bucketOf (tables .allowances) p .level + k));
-}
+credited tables p k =
+    lent
+    (tables .connections)
+    (tables .leases)
+    (put (tables .allowances) (allowanceAt p) (bigEndian 8 (bucketOf (tables .allowances) p .level + k)))
 
 -- "negative by exactly the shortfall": with so many units more the same call is done, with fewer it is refused with 9
 pub record ShortBy (tables : Tables) (call : Call) (units : ℕ) : Type 0 where

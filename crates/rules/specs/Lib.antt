@@ -1,4 +1,4 @@
--- The rules of the relay: all of 01 as definitions, in the order in which they build on each other; behind Reasons, from Layout on, what
+-- The rules of the relay: all of 01 as definitions, in the order in which they build on each other, and 02's reasons; behind Reasons, from Layout on, what
 -- the laws say, as statements.
 pub mod Sizes
 pub mod Searches

@@ -1,11 +1,9 @@
 -- `crondelith_explain_message`: stopped by one of checks 1 to 8, or judged.
 use native.Mathlib.Omega.{arith}
 use mathlib.Core.Path.{sym, _∙_}
-use lib.ListN.{replicate, length-replicate}
 use Rattle.rules.specs.Tables.{lent}
 use Rattle.rules.specs.Calls.{message}
-use Rattle.rules.proofs.Checks.{passed, random-length, from-peer}
-use Rattle.reasons.proofs.Ways.{first-eight-passed, stopped-way}
+use Rattle.reasons.proofs.Ways.{first-eight-passed, stopped-way, message-passed}
 use borrow.Author.Needs.{needs}
 use Rattle.reasons.proofs.crondelith_explain_message.Statement.{statement}
 use Rattle.reasons.proofs.crondelith_explain_message.Tie as tie
@@ -34,27 +32,14 @@ cast-judged : tie.Need-cast-judged
 cast-judged c =
     let s = c .before .before .before .before .before .before .before .before in
     let tables = lent (s .args .connections .now) (s .args .leases .now) (s .args .allowances .now) in
-    let call = message (s .args .time) (s .args .connection) (s .args .m .now) (s .args .random .now) (replicate (s .args .reply-length) 0) (replicate (s .args .relay-length) 0) in
-    let e = c .before .before .refusal .ensures (replicate (s .args .reply-length) 0) (replicate (s .args .relay-length) 0) (length-replicate (s .args .reply-length) 0) (length-replicate (s .args .relay-length) 0) in
-    let h = first-eight-passed tables call _ e (sym (c .before .is-stopped .ensures) ∙ c .if1 .left) in
-    omega (arith, passed tables call h .known)
+    let ok = message-passed tables (s .args .time) (s .args .connection) (s .args .m .now) (s .args .random .now) (s .args .reply-length) (s .args .relay-length) _ (c .before .before .refusal .ensures) (sym (c .before .is-stopped .ensures) ∙ c .if1 .left) in
+    omega (arith, ok .0 .known)
 
 judged-requires : tie.Need-judged-requires
 judged-requires c κs =
     let s = c .before .before .before .before .before .before .before .before in
     let tables = lent (s .args .connections .now) (s .args .leases .now) (s .args .allowances .now) in
-    let call = message (s .args .time) (s .args .connection) (s .args .m .now) (s .args .random .now) (replicate (s .args .reply-length) 0) (replicate (s .args .relay-length) 0) in
-    let e = c .before .before .refusal .ensures (replicate (s .args .reply-length) 0) (replicate (s .args .relay-length) 0) (length-replicate (s .args .reply-length) 0) (length-replicate (s .args .relay-length) 0) in
-    let h = first-eight-passed tables call _ e (sym (c .before .is-stopped .ensures) ∙ c .if1 .left) in
-    let ok = passed tables call h in (
-      record {
-        leases = ok .leases;
-        known = ok .known;
-        random-size = random-length tables (s .args .time) (s .args .connection) (s .args .m .now) (s .args .random .now) (replicate (s .args .reply-length) 0) (replicate (s .args .relay-length) 0) h;
-        from-peer = from-peer tables (s .args .time) (s .args .connection) (s .args .m .now) (s .args .random .now) (replicate (s .args .reply-length) 0) (replicate (s .args .relay-length) 0) h;
-      },
-      ok .allowances,
-    )
+    message-passed tables (s .args .time) (s .args .connection) (s .args .m .now) (s .args .random .now) (s .args .reply-length) (s .args .relay-length) _ (c .before .before .refusal .ensures) (sym (c .before .is-stopped .ensures) ∙ c .if1 .left)
 
 returns-2 : tie.Need-returns-2
 returns-2 c reply relay long long2 =

@@ -1,14 +1,12 @@
 -- `crondelith_explain_open`: stopped by one of checks 1 to 8, or charged.
 use native.Mathlib.Omega.{arith}
 use mathlib.Core.Path.{refl, sym, _∙_}
-use lib.ListN.{replicate, length-replicate}
 use Rattle.allowance.proofs.Numbers.{level≤capacity}
 use Rattle.rules.specs.Tables.{lent, bucketOf}
 use Rattle.rules.specs.Calls.{opening}
 use Rattle.rules.specs.Charges.{cost, price, callerLevel}
 use Rattle.rules.specs.Reasons.{asked}
-use Rattle.rules.proofs.Checks.{passed}
-use Rattle.reasons.proofs.Ways.{nothing-asked, first-eight-passed, stopped-way, charged-way}
+use Rattle.reasons.proofs.Ways.{nothing-asked, open-passed, first-eight-passed, stopped-way, charged-way}
 use borrow.Author.Needs.{needs}
 use Rattle.reasons.proofs.crondelith_explain_open.Statement.{statement}
 use Rattle.reasons.proofs.crondelith_explain_open.Tie as tie
@@ -38,9 +36,7 @@ cast-partner-of : tie.Need-cast-partner-of
 cast-partner-of c =
     let s = c .before .before .before .before .before .before .before in
     let tables = lent (s .args .connections .now) (s .args .leases .now) (s .args .allowances .now) in
-    let call = opening (s .args .time) (s .args .connection) (replicate (s .args .reply-length) 0) in
-    let e = c .before .before .before .refusal .ensures (replicate (s .args .reply-length) 0) (length-replicate (s .args .reply-length) 0) in
-    let ok = passed tables call (first-eight-passed tables call _ e (sym (c .before .is-stopped .ensures) ∙ c .if1 .left)) in
+    let ok = open-passed tables (s .args .time) (s .args .connection) (s .args .reply-length) _ (c .before .before .before .refusal .ensures) (sym (c .before .is-stopped .ensures) ∙ c .if1 .left) in
     omega (arith, ok .known)
 
 partner-of-requires : tie.Need-partner-of-requires
@@ -50,9 +46,7 @@ level-requires : tie.Need-level-requires
 level-requires c κs =
     let s = c .before .before .before .before .before .before .before .before in
     let tables = lent (s .args .connections .now) (s .args .leases .now) (s .args .allowances .now) in
-    let call = opening (s .args .time) (s .args .connection) (replicate (s .args .reply-length) 0) in
-    let e = c .before .before .before .before .refusal .ensures (replicate (s .args .reply-length) 0) (length-replicate (s .args .reply-length) 0) in
-    let ok = passed tables call (first-eight-passed tables call _ e (sym (c .before .before .is-stopped .ensures) ∙ c .before .if1 .left)) in
+    let ok = open-passed tables (s .args .time) (s .args .connection) (s .args .reply-length) _ (c .before .before .before .before .refusal .ensures) (sym (c .before .before .is-stopped .ensures) ∙ c .before .if1 .left) in
     (ok .allowances, omega (arith, ok .of-partner))
 
 with-headroom-requires : tie.Need-with-headroom-requires
