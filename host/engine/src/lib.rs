@@ -2,6 +2,8 @@
 #![allow(unsafe_code)]
 
 mod aligned;
+#[macro_use]
+mod on_tables;
 pub mod reasons;
 pub mod relay;
 pub mod svsc;

@@ -43,27 +43,8 @@ pub struct Tables<'a> {
     pub allowances: &'a [u8],
 }
 
-/// Declares functions of the header: each takes the three tables first, every one as pointer and length, and then these
-/// arguments.
-macro_rules! declare {
-    ($($function:ident($($argument:ident: $type:ty),+);)+) => {
-        mod c {
-            extern "C" {
-                $(pub fn $function(
-                    connections: *const u8,
-                    connections_length: usize,
-                    leases: *const u8,
-                    leases_length: usize,
-                    allowances: *const u8,
-                    allowances_length: usize,
-                    $($argument: $type),+
-                ) -> super::Reason;)+
-            }
-        }
-    };
-}
-
-declare! {
+declare_on_tables! {
+    const -> Reason;
     crondelith_explain_open(now: u64, connection: u64, reply_length: u64);
     crondelith_explain_message(
         now: u64,
@@ -78,31 +59,9 @@ declare! {
     crondelith_explain_close(now: u64, connection: u64, relay_length: u64);
 }
 
-/// Calls a function declared so.
-///
-/// SAFETY of every call: each pointer and length are those of a slice borrowed for the call, so the memory is there. The
-/// functions are total, only read, stay within the lengths they are given and keep no pointer, as proved of them. That the
-/// declarations above are the header's is what the tests of `compare` show, by calling each function with every kind of
-/// argument.
-macro_rules! call {
-    ($function:ident, $tables:ident, $($argument:expr),+) => {
-        unsafe {
-            c::$function(
-                $tables.connections.as_ptr(),
-                $tables.connections.len(),
-                $tables.leases.as_ptr(),
-                $tables.leases.len(),
-                $tables.allowances.as_ptr(),
-                $tables.allowances.len(),
-                $($argument),+
-            )
-        }
-    };
-}
-
 /// Opening a connection, with a reply buffer of such a length.
 pub fn open(tables: Tables, now: u64, connection: u64, reply_length: u64) -> Reason {
-    call!(crondelith_explain_open, tables, now, connection, reply_length)
+    call_on_tables!(crondelith_explain_open, tables.as_ptr, now, connection, reply_length)
 }
 
 /// A message from a connection, with buffers of such lengths.
@@ -115,9 +74,9 @@ pub fn message(
     reply_length: u64,
     relay_length: u64,
 ) -> Reason {
-    call!(
+    call_on_tables!(
         crondelith_explain_message,
-        tables,
+        tables.as_ptr,
         now,
         connection,
         message.as_ptr(),
@@ -131,5 +90,5 @@ pub fn message(
 
 /// Closing a connection, with a relay buffer of such a length.
 pub fn close(tables: Tables, now: u64, connection: u64, relay_length: u64) -> Reason {
-    call!(crondelith_explain_close, tables, now, connection, relay_length)
+    call_on_tables!(crondelith_explain_close, tables.as_ptr, now, connection, relay_length)
 }

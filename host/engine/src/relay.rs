@@ -48,27 +48,8 @@ pub struct Tables<'a> {
     pub allowances: &'a mut [u8],
 }
 
-/// Declares functions of the header: each takes the three tables first, every one as pointer and length, and then these
-/// arguments.
-macro_rules! declare {
-    ($($function:ident($($argument:ident: $type:ty),+);)+) => {
-        mod c {
-            extern "C" {
-                $(pub fn $function(
-                    connections: *mut u8,
-                    connections_length: usize,
-                    leases: *mut u8,
-                    leases_length: usize,
-                    allowances: *mut u8,
-                    allowances_length: usize,
-                    $($argument: $type),+
-                ) -> super::Answer;)+
-            }
-        }
-    };
-}
-
-declare! {
+declare_on_tables! {
+    mut -> Answer;
     crondelith_fresh(now: u64);
     crondelith_open(now: u64, connection: u64, reply: *mut u8, reply_length: usize);
     crondelith_message(
@@ -86,36 +67,14 @@ declare! {
     crondelith_close(now: u64, connection: u64, relay: *mut u8, relay_length: usize);
 }
 
-/// Calls a function declared so.
-///
-/// SAFETY of every call: each pointer and length are those of a slice borrowed for the call, so the memory is there, and
-/// a `&mut` slice overlaps nothing else. The functions are total, stay within the lengths they are given and keep no
-/// pointer, as proved of them. That the declarations above are the header's is what the tests of `compare` show, by
-/// calling each function with every kind of argument.
-macro_rules! call {
-    ($function:ident, $tables:ident, $($argument:expr),+) => {
-        unsafe {
-            c::$function(
-                $tables.connections.as_mut_ptr(),
-                $tables.connections.len(),
-                $tables.leases.as_mut_ptr(),
-                $tables.leases.len(),
-                $tables.allowances.as_mut_ptr(),
-                $tables.allowances.len(),
-                $($argument),+
-            )
-        }
-    };
-}
-
 /// Makes a fresh relay of the tables.
 pub fn fresh(tables: Tables, now: u64) -> Answer {
-    call!(crondelith_fresh, tables, now)
+    call_on_tables!(crondelith_fresh, tables.as_mut_ptr, now)
 }
 
 /// Opens a connection: the reply is the version message.
 pub fn open(tables: Tables, now: u64, connection: u64, reply: &mut [u8]) -> Answer {
-    call!(crondelith_open, tables, now, connection, reply.as_mut_ptr(), reply.len())
+    call_on_tables!(crondelith_open, tables.as_mut_ptr, now, connection, reply.as_mut_ptr(), reply.len())
 }
 
 /// Takes a message from a connection.
@@ -129,9 +88,9 @@ pub fn message(
     reply: &mut [u8],
     relay: &mut [u8],
 ) -> Answer {
-    call!(
+    call_on_tables!(
         crondelith_message,
-        tables,
+        tables.as_mut_ptr,
         now,
         connection,
         message.as_ptr(),
@@ -147,5 +106,5 @@ pub fn message(
 
 /// Closes a connection.
 pub fn close(tables: Tables, now: u64, connection: u64, relay: &mut [u8]) -> Answer {
-    call!(crondelith_close, tables, now, connection, relay.as_mut_ptr(), relay.len())
+    call_on_tables!(crondelith_close, tables.as_mut_ptr, now, connection, relay.as_mut_ptr(), relay.len())
 }
