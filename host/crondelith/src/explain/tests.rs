@@ -1,11 +1,14 @@
 //! The engine's reasons as they are told.
 
+use std::collections::BTreeSet;
+
 use engine::reasons::{Reason, ESTABLISH, LEASE};
 use serde_json::{json, Value};
 use server::{CLOCK_LIMIT, CONNECTIONS_EACH};
 
 use super::call::{Action, Call, CONNECTIONS};
 use super::explanation::Explanation;
+use super::DETAILS;
 
 const CLOCK: u64 = 1_794_812_909;
 const NOW: &str = "Time:       1794812909 (2026-11-16T07:08:29Z), the file's clock";
@@ -254,6 +257,19 @@ fn any_numbers_have_words() {
     assert_eq!(line(&told, "Meaning:").expect("words"), "times are below 1,099,511,627,776");
     let json = told.to_json();
     assert_eq!((&json["connection"], &json["time"], json.get("partner")), (&json!(u64::MAX), &json!(u64::MAX), None));
+}
+
+#[test]
+fn the_help_names_every_field() {
+    let short = explanation(message(&[2, 0]), charged(9, -1));
+    let lease = explanation(message(&[2, 0]), decided(LEASE, 1));
+    let session = explanation(message(&[6, 0, 0, 0, 5]), decided(ESTABLISH, 1));
+    let objects = [short, lease, session].map(|told| told.to_json());
+    let told: BTreeSet<_> = objects.iter().flat_map(|object| object.as_object().expect("an object").keys()).collect();
+    let (_, named) = DETAILS.split_once("what applies of these: ").expect("names");
+    let (named, _) = named.split_once('.').expect("their end");
+    let named: BTreeSet<_> = named.split([',', ';', ' ', '\n']).filter(|name| !name.is_empty()).collect();
+    assert_eq!(told.iter().map(|name| name.as_str()).collect::<BTreeSet<_>>(), named);
 }
 
 #[test]
