@@ -13,7 +13,7 @@ use std::process::ExitCode;
 
 use clap::{Parser, Subcommand};
 
-use output::{note, say};
+use output::{note, say, tell};
 
 /// A relay for remote support that eight device makers (partners) share
 #[derive(Parser)]

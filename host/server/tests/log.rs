@@ -80,6 +80,11 @@ fn a_shortfall_has_a_field_in_json_only_if_there_is_one() {
     assert!(objects[0]["shortfall"] == 12 && objects[0]["text"] == "12 units short", "{}", objects[0]);
     assert!(objects[1].get("shortfall").is_none(), "{}", objects[1]);
     assert_eq!(text.texts(), ["partner 2, connection 17: 12 units short", "partner 2, connection 17: not short"]);
+    // A line that sums up has none, whatever the others had.
+    (0..20).for_each(|_| json.log.record_with(REFUSED, None, || Said { text: "short", shortfall: Some(1) }));
+    json.log.sum_up();
+    let last = json.written().pop().expect("a line");
+    assert!(last.contains("times more") && !last.contains("shortfall"), "{last}");
 }
 
 #[test]

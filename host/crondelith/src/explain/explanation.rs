@@ -1,9 +1,10 @@
 //! What is told of a call: the engine's reason, and what follows from it.
 
 use engine::reasons::{Reason, ESTABLISH, LEASE};
+use frames::MESSAGE_LIMIT;
 use server::{Refusal, Tables};
 
-use super::call::{Action, Call};
+use super::call::Call;
 
 pub struct Explanation {
     pub call: Call,
@@ -87,9 +88,11 @@ impl Explanation {
         }
     }
 
-    /// What a running relay does then with a message. The first five checks are about what it brings itself.
+    /// What a running relay does then with a message. The first five checks are about what it brings itself; and what no
+    /// frame holds never comes to it.
     pub fn consequence(&self) -> Option<server::Consequence> {
         let refusal = self.refusal().filter(|Refusal(check)| *check > 5)?;
-        matches!(self.call.action, Action::Message { .. }).then(|| refusal.consequence())
+        let message = self.call.message().filter(|message| message.len() <= MESSAGE_LIMIT);
+        message.map(|_| refusal.consequence())
     }
 }

@@ -18,7 +18,7 @@ use clap::{Args, Subcommand};
 use server::Tables;
 
 use crate::signals::Watch;
-use crate::{say, Failure, Outcome};
+use crate::{tell, Failure, Outcome};
 use call::Call;
 use explanation::Explanation;
 use options::Options;
@@ -45,20 +45,21 @@ after how many seconds it can be paid. For instance, a lease request from connec
 
   crondelith explain relay.state message --connection 9 --hex 0200 --time $(date +%s)
 
-The file's clock is the time of the last call that was done. Later the allowances have refilled, and
-leases may have ended.
+The file's clock is the time of the last call that was done, or of the relay's start if none was.
+Later the allowances have refilled, and leases may have ended. What is told is the answer to a call
+that has its turn: while a message of the partner waits for the refill, its others wait behind it.
 
 STATE can be read at any time, by the relay's user only. A relay that runs saves it twice a second,
-with its connections as they are then. It closes them all when it ends, and one that was killed has
-them closed when it starts again: so of a relay that has ended every message is answered with 4.
+with its connections as they are then. It closes them all when it ends: from then on every message
+is answered with 4. The file of one that was killed still has them, until it starts again.
 
 With '--json' the same is one object. It has what applies of these: call, connection, partner, time,
 clock, message_length, message_type; check, done, reason, meaning, follows, request, condition,
 status, decision; free, cost, level, headroom, left, shortfall, payable_at, payable_after.
 
 The exit status is 0 if all this could be told, also of a call that would be refused; 1 if a file
-can't be read, also when interrupted before (Ctrl-C); and 2 if the arguments are wrong, STATE isn't
-a state file, or a message has more than 1 MiB.";
+can't be read or the answer can't be written, also when interrupted before (Ctrl-C); and 2 if the
+arguments are wrong, STATE isn't a state file, or a message has more than 1 MiB.";
 
 /// Tell what a relay would answer to a call, and why
 #[derive(Args)]
@@ -93,11 +94,11 @@ pub fn run(arguments: Arguments) -> Outcome {
     let tables = load(&state)?;
     let call = Call { connection, time: options.time.unwrap_or(tables.clock()), action: options.action(call)? };
     let explanation = Explanation::new(call, &tables);
-    match options.json {
-        true => say(explanation.to_json()),
-        false => say(explanation),
-    }
-    Ok(())
+    let told = match options.json {
+        true => tell(explanation.to_json()),
+        false => tell(explanation),
+    };
+    told.map_err(|error| Failure::Failed(format!("the explanation can't be printed: {error}")))
 }
 
 fn load(path: &Path) -> Result<Tables, Failure> {

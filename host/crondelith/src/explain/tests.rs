@@ -1,16 +1,21 @@
 //! The engine's reasons as they are told.
 
+use std::collections::BTreeSet;
+
 use engine::reasons::{Reason, ESTABLISH, LEASE};
 use serde_json::{json, Value};
-use server::CONNECTIONS_EACH;
+use server::{CLOCK_LIMIT, CONNECTIONS_EACH};
 
 use super::call::{Action, Call, CONNECTIONS};
 use super::explanation::Explanation;
+use super::DETAILS;
 
 const CLOCK: u64 = 1_794_812_909;
 const NOW: &str = "Time:       1794812909 (2026-11-16T07:08:29Z), the file's clock";
 /// The second of partner 1.
 const CONNECTION: u64 = CONNECTIONS_EACH as u64 + 1;
+/// Bytes of the longest message.
+const LONGEST: usize = 65_534;
 const NOT_CHARGED: &str = "Cost:       nothing, a call refused so isn't charged";
 
 const OPEN: Action = Action::Open { reply_length: 64 };
@@ -19,6 +24,17 @@ const CLOSE: Action = Action::Close { relay_length: 64 };
 fn message(message: &[u8]) -> Action {
     Action::Message { message: message.to_vec(), random: vec![0; 80], reply_length: 64, relay_length: 64 }
 }
+
+/// A message that isn't one of each type that peers send, and what one has.
+const MALFORMED: [(&[u8], &str); 7] = [
+    (&[1, 2], "a message of type 1 (version answer) has 2 bytes, 1 and then 0 or 1"),
+    (&[2, 2], "a message of type 2 (lease request) has 2 bytes, 2 and 0, or 26: 2, 1 and a cookie"),
+    (&[4], "a message of type 4 (lease extension request) has 25 bytes, 4 and a cookie"),
+    (&[6], "a message of type 6 (establish request) has 5 bytes, 6 and an id"),
+    (&[9, 0], "a message of type 9 (session end) has 1 byte"),
+    (&[11; LONGEST + 1], "a message of type 11 (data) has at most 65,534 bytes"),
+    (&[13, 0], "a message of type 13 (keepalive) has 1 byte"),
+];
 
 /// A call of the connection, at the clock's time.
 fn explanation(action: Action, reason: Reason) -> Explanation {
@@ -97,13 +113,15 @@ fn what_is_missing_is_told_with_the_time_when_it_is_there() {
         "payable_at": CLOCK + 1, "payable_after": 1,
     });
     assert_eq!(told.to_json(), expected);
-    let data = [11; 65_534];
-    let told = explanation(message(&data), charged(9, -65_566));
+    let told = explanation(message(&[11; LONGEST]), charged(9, -65_566));
     let payable = line(&told, "Payable:").expect("a time");
     assert!(payable.starts_with("in 2 seconds, at 1794812911 ("), "{payable}");
     assert_eq!(line(&told, "Allowance:").expect("a level"), "the partner has 0 units, 65,566 too few");
     assert_eq!(line(&told, "Follows:").expect("what the relay does"), "the message waits");
-    let never = Explanation { payable_at: None, ..told };
+    let late = Explanation { payable_at: Some(CLOCK + 1_234), ..told };
+    let payable = line(&late, "Payable:").expect("a time");
+    assert!(payable.starts_with("in 1,234 seconds, at 1794814143 ("), "{payable}");
+    let never = Explanation { payable_at: None, ..late };
     assert_eq!(line(&never, "Payable:").expect("words"), "at no time that the relay's clock can have");
     assert_eq!(never.to_json().get("payable_after"), None);
 }
@@ -120,18 +138,17 @@ fn a_free_call_costs_nothing() {
 
 #[test]
 fn each_check_has_words_for_the_call() {
-    let cases: [(u32, Action, &str); 15] = [
-        (2, OPEN, "the last call was done at 1794812909, and the relay's clock doesn't go back"),
+    let cases: [(u32, Action, &str); 14] = [
+        (2, OPEN, "the relay's clock is at 1794812909 already, and doesn't go back"),
         (3, OPEN, &format!("connections have the numbers 0 to {}", CONNECTIONS - 1)),
         (4, OPEN, "the connection isn't closed, and only a closed one can be opened"),
         (4, CLOSE, "the connection is closed, as all are when a relay has ended or starts"),
         (5, Action::Open { reply_length: 63 }, "the reply buffer needs 64 bytes or more and has 63"),
         (5, Action::Close { relay_length: 0 }, "the relay buffer needs 64 bytes or more and has 0"),
         (6, message(&[]), "it is empty, and a message begins with its type"),
-        (6, message(&[2, 2]), "a message of type 2 (lease request) has 2 bytes, 2 and 0, or 26: 2, 1 and a cookie"),
+        (6, message(&[2, 2]), MALFORMED[1].1),
         (6, message(&[3, 0]), "it has type 3, and peers send types 1, 2, 4, 6, 9, 11, 13"),
         (6, message(&[200]), "it has type 200, and peers send types 1, 2, 4, 6, 9, 11, 13"),
-        (6, message(&[13, 0]), "a message of type 13 (keepalive) has 1 byte"),
         (7, message(&[1, 1]), "the connection has answered the relay's version already"),
         (7, message(&[13]), "the connection hasn't answered the relay's version yet, and nothing else may come before"),
         (8, message(&[9]), "data and the end of a session are for a connection in session, and this one is in none"),
@@ -151,6 +168,22 @@ fn each_check_has_words_for_the_call() {
         let json = told.to_json();
         assert!(json["check"] == check && json["done"] == false && json["meaning"] == meaning, "{json}");
         assert!(json.get("free").is_none() && json.get("headroom").is_none(), "{json}");
+    }
+}
+
+#[test]
+fn each_type_has_words_for_what_is_malformed() {
+    for (bytes, meaning) in MALFORMED {
+        assert!(codec::decode(bytes).is_none(), "{meaning}");
+        assert_eq!(line(&explanation(message(bytes), refused(6)), "Meaning:").as_deref(), Some(meaning));
+    }
+}
+
+#[test]
+fn each_type_but_the_version_answer_s_comes_after_that() {
+    for (bytes, _) in &MALFORMED[1..] {
+        let meaning = line(&explanation(message(&bytes[..1]), refused(7)), "Meaning:").expect("words");
+        assert!(meaning.starts_with("the connection hasn't answered the relay's version yet"), "{bytes:?}: {meaning}");
     }
 }
 
@@ -177,8 +210,14 @@ fn what_a_running_relay_does_is_told_of_messages_that_peers_can_send() {
         assert_eq!(follows(message(&[11]), check).as_deref(), Some(what));
         assert_eq!(explanation(message(&[11]), refused(check)).to_json()["follows"], what);
     }
-    assert_eq!(follows(message(&[11]), 4), None);
+    for check in 2..=5 {
+        assert_eq!(follows(message(&[11]), check), None);
+    }
     assert_eq!(follows(OPEN, 4), None);
+    assert_eq!(line(&explanation(OPEN, charged(9, -1)), "Follows:"), None);
+    // The longest message that a frame holds, and one that none does.
+    assert_eq!(follows(message(&[3; LONGEST]), 6).as_deref(), Some("the connection is closed"));
+    assert_eq!(follows(message(&[3; LONGEST + 1]), 6), None);
 }
 
 #[test]
@@ -218,10 +257,37 @@ fn any_numbers_have_words() {
     assert_eq!(line(&told, "Meaning:").expect("words"), "times are below 1,099,511,627,776");
     let json = told.to_json();
     assert_eq!((&json["connection"], &json["time"], json.get("partner")), (&json!(u64::MAX), &json!(u64::MAX), None));
+}
+
+#[test]
+fn the_help_names_every_field() {
+    let short = explanation(message(&[2, 0]), charged(9, -1));
+    let lease = explanation(message(&[2, 0]), decided(LEASE, 1));
+    let session = explanation(message(&[6, 0, 0, 0, 5]), decided(ESTABLISH, 1));
+    let objects = [short, lease, session].map(|told| told.to_json());
+    let told: BTreeSet<_> = objects.iter().flat_map(|object| object.as_object().expect("an object").keys()).collect();
+    let (_, named) = DETAILS.split_once("what applies of these: ").expect("names");
+    let (named, _) = named.split_once('.').expect("their end");
+    let named: BTreeSet<_> = named.split([',', ';', ' ', '\n']).filter(|name| !name.is_empty()).collect();
+    assert_eq!(told.iter().map(|name| name.as_str()).collect::<BTreeSet<_>>(), named);
+}
+
+#[test]
+fn numbers_at_their_limits_have_words() {
+    let told = |connection, time| {
+        let call = Call { connection, time, action: OPEN };
+        Explanation { call, clock: 0, reason: refused(2), payable_at: None }
+    };
+    assert_eq!(line(&told(0, CLOCK_LIMIT), "Meaning:").expect("words"), "times are below 1,099,511,627,776");
+    let last = told(CONNECTIONS - 1, 0);
+    assert_eq!(line(&last, "Call:").expect("a call"), "open of connection 63 of partner 7");
+    assert_eq!(last.to_json()["partner"], 7);
+    let beyond = told(CONNECTIONS, 0);
+    assert_eq!(line(&beyond, "Call:").expect("a call"), "open of connection 64");
+    assert_eq!(beyond.to_json().get("partner"), None);
     // The last second whose year has four digits, and the next.
     for (time, words) in [(253_402_300_799, "(9999-12-31T23:59:59Z)"), (253_402_300_800, "253402300800;")] {
-        let call = Call { connection: 0, time, action: OPEN };
-        let told = Explanation { call, clock: 0, reason: charged(0, 0), payable_at: None };
+        let told = told(0, time);
         assert!(line(&told, "Time:").is_some_and(|line| line.contains(words)), "{told}");
     }
 }

@@ -27,7 +27,7 @@ pub fn type_name(kind: u8) -> Option<&'static str> {
 pub fn meaning(Explanation { call, clock, reason, .. }: &Explanation) -> Option<String> {
     match (reason.check, &call.action) {
         (2, _) if call.time >= CLOCK_LIMIT => Some(format!("times are below {}", grouped(CLOCK_LIMIT))),
-        (2, _) => Some(format!("the last call was done at {clock}, and the relay's clock doesn't go back")),
+        (2, _) => Some(format!("the relay's clock is at {clock} already, and doesn't go back")),
         (3, _) => Some(format!("connections have the numbers 0 to {}", CONNECTIONS - 1)),
         (4, Action::Open { .. }) => Some("the connection isn't closed, and only a closed one can be opened".into()),
         (4, _) => Some("the connection is closed, as all are when a relay has ended or starts".into()),

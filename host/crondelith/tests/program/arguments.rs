@@ -62,7 +62,7 @@ fn the_version_is_printed() {
 }
 
 /// Arguments, and the reason why they are wrong.
-const WRONG: [(&[&str], &str); 49] = [
+const WRONG: [(&[&str], &str); 52] = [
     (&[], "'crondelith' requires a subcommand"),
     (&["dance"], "'dance' wasn't recognized"),
     (&["help", "dance"], "'dance' wasn't recognized"),
@@ -108,6 +108,9 @@ const WRONG: [(&[&str], &str); 49] = [
         &["explain", "state", "open", "--connection", "1", "--relay-length", "9"],
         "'--relay-length' is an option of 'message' and 'close'",
     ),
+    (&["explain", "state", "open", "--connection", "1", "--file", "f"], "'--file' is an option of 'message'"),
+    (&["explain", "state", "open", "--connection", "1", "--random", ""], "'--random' is an option of 'message'"),
+    (&["explain", "state", "close", "--connection", "1", "--hex", ""], "'--hex' is an option of 'message'"),
     (&["explain", "state", "close", "--connection", "1", "--file", "f"], "'--file' is an option of 'message'"),
     (&["explain", "state", "close", "--connection", "1", "--random", "00"], "'--random' is an option of 'message'"),
     (

@@ -122,6 +122,23 @@ fn an_open_that_waits_has_its_shortfall_in_the_log() {
 }
 
 #[test]
+fn a_shortfall_has_the_refill_since_the_last_call() {
+    let clock = Standing::default();
+    let relay = Relay::with_clock(clock.clone());
+    let (mut caller, mut holder) = (relay.peer(0), relay.peer(0));
+    caller.establish(&mut holder);
+    // As above, and a fourth that leaves 25 units.
+    for data in [&DATA, &DATA, &DATA, &DATA[..65_308 - 33]] {
+        caller.send(Message::DataSend { data });
+        holder.receive().expect("what is sent");
+    }
+    clock.advance(1);
+    // The longest costs 65,566.
+    caller.send(Message::DataSend { data: &[7; 65_533] });
+    relay.await_line(&waits(0, 5));
+}
+
+#[test]
 fn the_server_stops_while_messages_wait() {
     let relay = Relay::with_clock(Standing::default());
     let mut peer = relay.peer(0);

@@ -7,7 +7,7 @@ use serde_json::json;
 
 use super::{
     assert_has, assert_lacks, await_saved, clock, end, explain, explain_message, explain_open, level, peer, relay,
-    with_allowance, Scene, Session, FIRST, KEEPALIVE, LONGEST, PARTNER, SECOND, THIRD,
+    told, with_allowance, Scene, Session, FIRST, KEEPALIVE, LONGEST, PARTNER, SECOND, THIRD,
 };
 use crate::support::text;
 
@@ -74,9 +74,26 @@ fn allowances_from_anywhere() {
     assert_has(&open(u64::MAX, now), json!({ "check": 0, "level": 262_144 }));
     // There is no refill before a time of update that is to come.
     assert_has(&open(0, now + 10), json!({ "check": 9, "shortfall": 32, "payable_after": 11, "payable_at": now + 11 }));
-    let never = open(0, u64::MAX);
-    assert_has(&never, json!({ "check": 9, "shortfall": 32 }));
-    assert_lacks(&never, &["payable_after", "payable_at"]);
+    // The last second that the clock can have is one to pay in.
+    let last = (1u64 << 40) - 1;
+    assert_has(&open(0, last - 1), json!({ "check": 9, "payable_after": last - now, "payable_at": last }));
+    for updated in [last, u64::MAX] {
+        let never = open(0, updated);
+        assert_has(&never, json!({ "check": 9, "shortfall": 32 }));
+        assert_lacks(&never, &["payable_after", "payable_at"]);
+    }
+}
+
+#[test]
+fn the_seconds_until_a_call_can_be_paid_are_those_after_its_own_time() {
+    let (relay, state) = relay("explain_later");
+    end(relay);
+    let now = clock(&state);
+    let copy = with_allowance(&state, 0, now + 10);
+    let open = ["open", "--connection", &FIRST.to_string(), "--time", &(now + 3).to_string()];
+    assert_has(&explain(&copy, &open), json!({ "check": 9, "clock": now, "payable_after": 8, "payable_at": now + 11 }));
+    let words = told(&copy, &open);
+    assert!(words.contains(&format!("Payable:    in 8 seconds, at {} (", now + 11)), "{words}");
 }
 
 #[test]

@@ -74,6 +74,11 @@ fn times_lengths_and_random_bytes_of_any_kind() {
         let object = explain_message(state, SECOND, KEEPALIVE, options);
         assert_eq!(object["check"], check, "{options:?}: {object}");
     }
+    let short = explain_message(state, SECOND, KEEPALIVE, &["--relay-length", "63"]);
+    let meaning =
+        "there must be 80 random bytes and there are 80; the reply buffer needs 64 bytes or more and has 64; \
+                   the relay buffer needs 64 bytes or more and has 63";
+    assert_has(&short, json!({ "meaning": meaning }));
     // The first check that applies is named.
     let last = explain(state, &["open", "--connection", "18446744073709551615", "--reply-length", "0"]);
     assert_has(&last, json!({ "check": 3, "connection": u64::MAX }));

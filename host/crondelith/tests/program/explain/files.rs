@@ -1,6 +1,6 @@
 //! Files that are read, and what is printed.
 
-use std::fs;
+use std::fs::{self, File};
 use std::os::unix::fs::MetadataExt;
 use std::path::Path;
 use std::process::{Command, Stdio};
@@ -9,10 +9,10 @@ use std::time::{Duration, UNIX_EPOCH};
 use serde_json::{json, Value};
 
 use super::{
-    assert_has, clock, end, explain, explain_message, explain_open, lease, level, peer, relay, told, with_allowance,
-    Scene, FIRST, KEEPALIVE, LONGEST, PARTNER, SECOND,
+    assert_has, assert_lacks, await_saved, clock, end, explain, explain_message, explain_open, lease, level, peer,
+    relay, told, with_allowance, Scene, FIRST, KEEPALIVE, LONGEST, PARTNER, SECOND,
 };
-use crate::support::{broken_pipe, program, run, text, Running};
+use crate::support::{broken_pipe, program, run, text, Relay, Running};
 
 #[test]
 fn an_explanation_in_words_and_as_json() {
@@ -75,6 +75,19 @@ fn a_relay_that_has_ended_is_explained_and_nothing_is_changed() {
 }
 
 #[test]
+fn a_relay_that_was_killed_has_left_its_connections() {
+    let (relay, state) = relay("explain_killed");
+    let _peer = peer(&relay);
+    let check = || explain_message(&state, FIRST, KEEPALIVE, &[])["check"].clone();
+    await_saved(|| check() == 0);
+    relay.program.signal("KILL");
+    assert_eq!(relay.program.end().status, None);
+    assert_eq!(check(), 0);
+    end(Relay::start(&["--state", text(&state)]));
+    assert_eq!(check(), 4);
+}
+
+#[test]
 fn a_message_may_be_longer_than_one_can_be() {
     let Scene { state, .. } = &Scene::start("explain_long");
     let file = state.with_extension("message");
@@ -82,7 +95,9 @@ fn a_message_may_be_longer_than_one_can_be() {
     let longer = [&message[..], &["--relay-length", "64"]].concat();
     for length in [LONGEST + 1, 1 << 20] {
         fs::write(&file, vec![11; length]).expect("a message");
-        assert_has(&explain(state, &message), json!({ "check": 6, "message_length": length }));
+        let object = explain(state, &message);
+        assert_has(&object, json!({ "check": 6, "message_length": length }));
+        assert_lacks(&object, &["follows"]);
         assert_has(&explain(state, &longer), json!({ "check": 5 }));
     }
     fs::write(&file, vec![11; (1 << 20) + 1]).expect("a message");
@@ -142,4 +157,17 @@ fn an_explanation_that_nobody_reads_changes_no_exit_status() {
     let words = ["explain", text(&state), "open", "--connection", "0"];
     let ended = Running::start(program(&words).stdout(broken_pipe()).stderr(broken_pipe())).end();
     assert_eq!(ended.status, Some(0));
+}
+
+#[test]
+fn an_explanation_that_cannot_be_kept_is_a_failure() {
+    let (relay, state) = relay("explain_full");
+    end(relay);
+    for form in [&[][..], &["--json"]] {
+        let words = [&["explain", text(&state), "open", "--connection", "0"], form].concat();
+        let full = File::options().write(true).open("/dev/full").expect("/dev/full");
+        let ended = Running::start(program(&words).stdout(full)).end();
+        assert_eq!(ended.status, Some(1), "{words:?}");
+        assert!(ended.last_line().contains("the explanation can't be printed: No space left"), "{}", ended.stderr);
+    }
 }
