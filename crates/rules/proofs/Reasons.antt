@@ -1,5 +1,5 @@
 -- The reason that is named is the true one (02, Item 1): the check that stops a call, what decided it, and its headroom. Assumes nothing.
-use Prim.Native.Nat.{ℕ, zero, suc, _+_, _-_, _*_, _≤_, _<_, min}
+use Prim.Native.Nat.{ℕ, zero, suc, _+_, _-_, _*_, _≤_, _<_, min, _^_}
 use mathlib.Core.Path.{_≡_, refl, sym, ap, ap₂, _∙_}
 use mathlib.Core.Logic.{_≢_, _⊎_, inl, inr, ⊎-elim, _↔_}
 use mathlib.Core.Bool.{Bool, true, false, _&&_, false≢true}
@@ -20,7 +20,7 @@ use Rattle.svsc.specs.Messages.{typeOf, encode}
 use Rattle.allowance.specs.Bucket.{capacity, refillRate, levelNow}
 use Rattle.allowance.specs.Meter.{verdict}
 use Rattle.allowance.proofs.Numbers.{verdict-nine, nine-verdict, zero-verdict}
-use Rattle.rules.specs.Sizes.{partners}
+use Rattle.rules.specs.Sizes.{partners, allowancesSize}
 use Rattle.rules.specs.Tables.{Tables, allowanceAt, updatedAt, bucketOf, clock, sized}
 use Rattle.rules.specs.Leases.{LeaseDecision, holdsLease, noSpareRow, cookieInUse, noFreeId, granted, decideLease}
 use Rattle.rules.specs.Sessions.{EstablishDecision, refusedWith, establishedWith, decideEstablish}
@@ -32,7 +32,7 @@ use Rattle.rules.specs.Step.{step, done}
 use Rattle.rules.specs.Reasons.{conditionOf, statusOf, Decided, undecided, ofLease, ofEstablish, asked, decided, headroom, explain}
 use Rattle.rules.specs.Refusals.{Applies}
 use Rattle.rules.specs.Laws.{Accepted}
-use Rattle.rules.specs.Explained.{AsksDecision, LeaseNamed, EstablishNamed, LengthsOnly, credited, ShortBy, HeadroomExactly}
+use Rattle.rules.specs.Explained.{AsksDecision, LeaseNamed, EstablishNamed, LengthsOnly, credited, Credited, ShortBy, HeadroomExactly}
 use Rattle.rules.proofs.Records.{byte-part}
 use Rattle.rules.proofs.Messages.{by-type}
 use Rattle.rules.proofs.Checks.{none-applies, all-pass, at-most, check-verdict, Passed, passed, from-peer}
@@ -41,6 +41,7 @@ use Rattle.rules.proofs.Leases.{first-failing, statuses}
 use Rattle.rules.proofs.Room.{messages-fit}
 use Rattle.rules.proofs.Metered.{price-most, bucket-stored}
 use Rattle.rules.proofs.Refusals.{fails}
+use Rattle.rules.proofs.Changes.{changed-at}
 
 -- ---- the check
 
@@ -320,6 +321,18 @@ module _ (tables : Tables) (call : Call) where
       (e, bucket-stored tables call e (callerOf call) p< ∙ rw (is .1 .0, eq-eqb (callerOf call) (callerOf call) refl, left))
 
 -- ---- the shortfall
+
+-- What is meant by so many units more in an allowance: where a cell holds them, they are in the stored level, and nowhere else.
+pub credited-only : (tables : Tables) (p k : ℕ) → length (tables .allowances) ≡ allowancesSize → p < partners
+    → numberAt (tables .allowances) (16 * p) 8 + k < 256 ^ 8
+    → Credited tables p k (credited tables p k)
+unfolding credited bucketOf bigEndian
+credited-only tables p k size p< cell = record {
+  level = numberAt-put (tables .allowances) (allowanceAt p) 8 _ (omega arith) cell;
+  others = changed-at (tables .allowances) (allowanceAt p) (bigEndian 8 _) (λ i l u. (omega arith, omega arith));
+  connections = refl;
+  leases = refl;
+}
 
 -- k units more in a bucket are k units more of its level, up to the capacity
 more-level : (stored refill k : ℕ) → min capacity (min capacity stored + refill) + k ≤ capacity

@@ -1,5 +1,5 @@
 -- What the laws of reasons say: "The reason named must be the true one on every board" (02, Item 1), as statements.
-use Prim.Native.Nat.{ℕ, _+_, _≤_, _<_}
+use Prim.Native.Nat.{ℕ, _+_, _*_, _≤_, _<_}
 use mathlib.Core.Path.{_≡_}
 use mathlib.Core.Logic.{_⊎_, _↔_}
 use mathlib.Core.Bool.{true}
@@ -20,6 +20,7 @@ use Rattle.rules.specs.Step.{step}
 use Rattle.rules.specs.Reasons.{conditionOf, statusOf, ofLease, ofEstablish, explain}
 use Rattle.rules.specs.Refusals.{Applies}
 use Rattle.rules.specs.Effects.{HoldsNone, HasSpare, NewCookie, FreeCandidate, LeaseConditions, Statuses}
+use Rattle.rules.specs.Bytes.{ChangedOnly, InField}
 use Rattle.rules.specs.Laws.{Accepted}
 
 -- "which of the four lease conditions failed first in 01's order, or that all held": k is its number, or 0
@@ -72,6 +73,13 @@ credited tables p k =
     (tables .connections)
     (tables .leases)
     (put (tables .allowances) (allowanceAt p) (bigEndian 8 (bucketOf (tables .allowances) p .level + k)))
+
+-- k units more in that level, in 01's places, and no other byte changes
+pub record Credited (tables : Tables) (p k : ℕ) (richer : Tables) : Type 0 where
+  pub level : numberAt (richer .allowances) (16 * p) 8 ≡ numberAt (tables .allowances) (16 * p) 8 + k
+  pub others : ChangedOnly (InField 16 p 0 8) (tables .allowances) (richer .allowances)
+  pub connections : richer .connections ≡ tables .connections
+  pub leases : richer .leases ≡ tables .leases
 
 -- "negative by exactly the shortfall": with so many units more the same call is done, with fewer it is refused with 9
 pub record ShortBy (tables : Tables) (call : Call) (units : ℕ) : Type 0 where
