@@ -36,7 +36,8 @@ fn status_of(decision: EstablishDecision) -> u32
     }
 }
 
-// What decided a message that the check, 0 or 9, answers: nothing, if it is not done.
+// What decided a message that the check, 0 or 9, answers: nothing, if it is not done. That checks 1 to 8 have passed is required: no answer
+// would serve where they fail.
 pub fn decided(
     connections: &[u8],
     leases: &[u8],

@@ -49,8 +49,8 @@ fn little_is_taken_of_what_its_partner_cannot_pay_for() {
     let relay = Relay::with_clock(clock.clone());
     let mut peer = small_peer(relay.server.addresses()[0]);
     let taken = taken(&mut peer, &frames_of(&[13], 65_536));
-    // The allowance pays for 32 KiB of keepalives; the kernel's and the relay's buffers hold the rest. The kernel books 256 KiB,
-    // takes a last piece of up to 64 KiB beyond them, and cuts the stream as it likes.
+    // The allowance pays for 32 KiB of keepalives; the kernel's and the relay's buffers hold the rest. The bound is an estimate: the
+    // kernel books 256 KiB, and what it takes grows in pieces of 64 KiB. The most seen is 455,831.
     assert!((32_000..520_000).contains(&taken), "{taken}");
 }
 
