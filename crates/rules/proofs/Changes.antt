@@ -15,7 +15,7 @@ use Rattle.octets.proofs.Stores.{length-put}
 use Rattle.svsc.specs.Messages.{cookieBytes}
 use Rattle.rules.specs.Sizes.{rowCount, connectionBytes, leaseBytes, leasesSize, nobody}
 use Rattle.rules.specs.Tables.{connectionAt, peerAt, keysAt, keysBytes, leaseAt, idAt, holderAt, cookieAt, holder, setState, setPeer, setExpiry, setId, setHolder, freshConnection}
-use Rattle.rules.specs.Leases.{grant, releaseFrom}
+use Rattle.rules.specs.Leases.{grant, renew, releaseFrom}
 use Rattle.rules.specs.Sessions.{clear, await, join, leave, endSession}
 use Rattle.rules.specs.Bytes.{ChangedOnly, InField}
 use Rattle.rules.specs.Effects.{InConnection, InSessionBytes}
@@ -84,6 +84,14 @@ changed-grant ls r until id cookie c h =
     (changed-at with-expiry (idAt r) (bigEndian 4 id) (λ i l u. (omega arith, omega (arith, length-bigEndian 4 id))))
     (changed-at with-id (holderAt r) (c ∷ []) (λ i l u. (omega arith, omega arith)))))
     (changed-at (setHolder with-id r c) (cookieAt r) cookie (λ i l u. (omega arith, omega arith)))
+
+pub changed-renew : (ls : List ℕ) (r until c : ℕ)
+    → ChangedOnly (λ i. InField leaseBytes r 0 8 i ⊎ InField leaseBytes r 12 1 i) ls (renew ls r until c)
+unfolding renew
+changed-renew ls r until c =
+    changed-both
+    (changed-expiry ls r until)
+    (changed-at (setExpiry ls r until) (holderAt r) (c ∷ []) (λ i l u. (omega arith, omega arith)))
 
 -- ---- the rows that a close gives back
 

@@ -13,10 +13,10 @@ use Rattle.octets.proofs.Tests.{both-left, both-right}
 use Rattle.rules.specs.Sizes.{rowsPerPartner, candidateCount, idLimit}
 use Rattle.rules.specs.Searches.{firstFrom, firstRow, endRow, firstOwn}
 use Rattle.rules.specs.Tables.{partnerOf, ownerOf, isOpen, hasSession, live, liveWithId, holder, cookieOf, holderCounts}
-use Rattle.rules.specs.Leases.{LeaseDecision, holdsLease, noSpareRow, cookieInUse, noFreeId, granted, holdsRow, spareRow, cookieTaken, randomCookie, candidate, idTaken, firstFree, decideLease, rowToExtend}
+use Rattle.rules.specs.Leases.{LeaseDecision, holdsLease, noSpareRow, cookieInUse, noFreeId, renewed, granted, holdsRow, earlierSpare, spareRow, cookieTaken, randomCookie, candidate, idTaken, firstFree, renewable, rowToRenew, renewOrGrant, decideLease, rowToExtend}
 use Rattle.rules.specs.Sessions.{refusedWith, establishedWith, rowOfId, decideEstablish}
-use Rattle.rules.specs.Effects.{isGranted}
-use Rattle.rules.proofs.Searches.{first-low, first-passes, first-found, first-none}
+use Rattle.rules.specs.Effects.{isAccepted}
+use Rattle.rules.proofs.Searches.{first-low, first-passes, first-found, first-none, first-is}
 
 -- Past a test that would give another answer.
 past : {A : Type 0} (t : Bool) {x y z : A} → (if t then x else y) ≡ z → (x ≡ z → ⊥) → (t ≡ false) × (y ≡ z)
@@ -48,8 +48,20 @@ own-none p f h =
 pub own-passes : (p : ℕ) (f : ℕ → Bool) → firstOwn p f < endRow p → f (firstOwn p f) ≡ true
 own-passes p f h = first-passes f (firstRow p) rowsPerPartner h
 
+pub own-is : (p : ℕ) (f : ℕ → Bool) (r : ℕ) → ownerOf r ≡ p → f r ≡ true → ((k : ℕ) → ownerOf k ≡ p → k < r → f k ≡ false)
+    → firstOwn p f ≡ r
+own-is p f r o h below =
+    first-is f (firstRow p) rowsPerPartner r (omega arith) (omega arith) h (λ k l u. below k (omega arith) u)
+
 -- ---- Lease
 
+-- the row that is renewed
+pub record Renewed (cs ls : List ℕ) (now c : ℕ) (cookie : List ℕ) (row : ℕ) : Type 0 where
+  pub own : Own (partnerOf c) row
+  pub row-is : row ≡ rowToRenew cs ls now (partnerOf c) cookie
+  pub passes : renewable cs ls now cookie row ≡ true
+
+-- what a new lease gets
 pub record Granted (ls : List ℕ) (now c : ℕ) (random : List ℕ) (row id : ℕ) (cookie : List ℕ) : Type 0 where
   pub own : Own (partnerOf c) row
   pub row-is : row ≡ spareRow ls now (partnerOf c)
@@ -65,9 +77,9 @@ module _ (ls : List ℕ) (now c : ℕ) (random : List ℕ) where
       → Own (partnerOf c) (spareRow ls now (partnerOf c)) × (live ls now (spareRow ls now (partnerOf c)) ≡ false)
   unfolding spareRow
   found-spare h =
-      let f : ℕ → Bool = λ r. not (live ls now r) in
+      let f : ℕ → Bool = λ r. not (live ls now r) && not (earlierSpare ls now (partnerOf c) r) in
       let l = ltb-true (firstOwn (partnerOf c) f) (endRow (partnerOf c)) h in
-      (own-row (partnerOf c) f l, not-true _ (own-passes (partnerOf c) f l))
+      (own-row (partnerOf c) f l, not-true _ (both-left _ _ (own-passes (partnerOf c) f l)))
 
   found-id : ltb (firstFree ls now random) candidateCount ≡ true → idTaken ls now (candidate random (firstFree ls now random)) ≡ false
   unfolding firstFree
@@ -80,31 +92,68 @@ module _ (ls : List ℕ) (now c : ℕ) (random : List ℕ) where
   unfolding candidate
   candidate-small k = mod-lt _ (lit< tt)
 
-  pub is-granted : (row id : ℕ) (cookie : List ℕ) → decideLease ls now c random ≡ granted row id cookie
-      → Granted ls now c random row id cookie
-  unfolding decideLease
-  is-granted row id cookie e =
-      let a = past (holdsRow ls now c) e (λ z. other holdsLease refl z) in
-      let b = past (not (ltb (spareRow ls now (partnerOf c)) (endRow (partnerOf c)))) (a .1) (λ z. other noSpareRow refl z) in
-      let d = past (cookieTaken ls now (partnerOf c) (randomCookie random)) (b .1) (λ z. other cookieInUse refl z) in
-      let f = past (not (ltb (firstFree ls now random) candidateCount)) (d .1) (λ z. other noFreeId refl z) in
-      let row-is : spareRow ls now (partnerOf c) ≡ row = cc (f .1) in
-      let id-is : candidate random (firstFree ls now random) ≡ id = cc (f .1) in
-      let cookie-is : randomCookie random ≡ cookie = cc (f .1) in
-      let found = found-spare (not-false _ (b .0)) in
-      record {
-        own = rw (← row-is) (found .0);
-        row-is = sym row-is;
-        id-is = sym id-is;
-        found = ltb-true (firstFree ls now random) candidateCount (not-false _ (f .0));
-        spare = rw (← row-is) (found .1);
-        id-free = rw (← id-is) (found-id (not-false _ (f .0)));
-        id-small = rw (← id-is) (candidate-small (firstFree ls now random));
-        cookie-is = sym cookie-is;
-      }
-    where
-      other : (d : LeaseDecision) → isGranted d ≡ false → d ≡ granted row id cookie → ⊥
-      other d n z = true≢false (sym (ap isGranted z) ∙ n)
+  module _ (cs cookie : List ℕ) where
+    -- what an accepted request has passed
+    record Accepting (d : LeaseDecision) : Type 0 where
+      spare : ltb (spareRow ls now (partnerOf c)) (endRow (partnerOf c)) ≡ true
+      free : ltb (firstFree ls now random) candidateCount ≡ true
+      last : renewOrGrant cs ls now c random cookie ≡ d
+
+    accepting : (d : LeaseDecision) → isAccepted d ≡ true → decideLease cs ls now c random cookie ≡ d → Accepting d
+    unfolding decideLease
+    accepting d y e =
+        let held = past (holdsRow ls now c) e (other holdsLease refl) in
+        let spare = past (not (ltb (spareRow ls now (partnerOf c)) (endRow (partnerOf c)))) (held .1) (other noSpareRow refl) in
+        let taken = past (cookieTaken ls now (partnerOf c) (randomCookie random)) (spare .1) (other cookieInUse refl) in
+        let free = past (not (ltb (firstFree ls now random) candidateCount)) (taken .1) (other noFreeId refl) in
+        record { spare = not-false _ (spare .0); free = not-false _ (free .0); last = free .1 }
+      where
+        other : (x : LeaseDecision) → isAccepted x ≡ false → x ≡ d → ⊥
+        other x n z = true≢false (sym y ∙ sym (ap isAccepted z) ∙ n)
+
+    -- the end of the partner's rows, if none is renewable
+    abbrev renewing : ℕ
+    renewing = rowToRenew cs ls now (partnerOf c) cookie
+
+    pub is-renewed : (row : ℕ) → decideLease cs ls now c random cookie ≡ renewed row → Renewed cs ls now c cookie row
+    unfolding renewOrGrant rowToRenew
+    is-renewed row e = go (ltb renewing (endRow (partnerOf c))) refl (accepting (renewed row) refl e .last)
+      where
+        go : (t : Bool) → ltb renewing (endRow (partnerOf c)) ≡ t
+            → (if t then renewed renewing
+            else granted (spareRow ls now (partnerOf c)) (candidate random (firstFree ls now random)) (randomCookie random))
+            ≡ renewed row
+            → Renewed cs ls now c cookie row
+        go true h z =
+            let row-is : renewing ≡ row = cc z in
+            let f : ℕ → Bool = renewable cs ls now cookie in
+            let l = ltb-true (firstOwn (partnerOf c) f) (endRow (partnerOf c)) h in
+            rw (← row-is) (record { own = own-row (partnerOf c) f l; row-is = refl; passes = own-passes (partnerOf c) f l })
+        go false h z = absurd (let w : _≡_ {A = ℕ} 0 1 = cc z in omega arith)
+
+    pub is-granted : (row id : ℕ) (drawn : List ℕ) → decideLease cs ls now c random cookie ≡ granted row id drawn
+        → Granted ls now c random row id drawn
+    unfolding renewOrGrant
+    is-granted row id drawn e =
+        let a = accepting (granted row id drawn) refl e in
+        let new = past (ltb renewing (endRow (partnerOf c))) (a .last) other .1 in
+        let row-is : spareRow ls now (partnerOf c) ≡ row = cc new in
+        let id-is : candidate random (firstFree ls now random) ≡ id = cc new in
+        let cookie-is : randomCookie random ≡ drawn = cc new in
+        let found = found-spare (a .spare) in
+        record {
+          own = rw (← row-is) (found .0);
+          row-is = sym row-is;
+          id-is = sym id-is;
+          found = ltb-true (firstFree ls now random) candidateCount (a .free);
+          spare = rw (← row-is) (found .1);
+          id-free = rw (← id-is) (found-id (a .free));
+          id-small = rw (← id-is) (candidate-small (firstFree ls now random));
+          cookie-is = sym cookie-is;
+        }
+      where
+        other : renewed renewing ≡ granted row id drawn → ⊥
+        other z = let w : _≡_ {A = ℕ} 0 1 = cc z in omega arith
 
 -- ---- Extension
 

@@ -10,7 +10,7 @@ use native.Mathlib.Decide.{ℕ-discrete}
 use lib.Dec.{ltb}
 use Rattle.svsc.specs.Messages.{VersionAnswer, typeOf, decode}
 use Rattle.rules.specs.Tables.{Tables, partnerOf}
-use Rattle.rules.specs.Leases.{LeaseDecision, holdsLease, noSpareRow, cookieInUse, noFreeId, granted, decideLease, rowToExtend}
+use Rattle.rules.specs.Leases.{LeaseDecision, holdsLease, noSpareRow, cookieInUse, noFreeId, renewed, granted, decideLease, rowToExtend}
 use Rattle.rules.specs.Searches.{endRow}
 use Rattle.rules.specs.Sessions.{EstablishDecision, refusedWith, establishedWith, decideEstablish}
 use Rattle.rules.specs.Plans.{Plan, planOpen, planLease, planExtension, planEstablish, planEnd, planData, planClose}
@@ -34,6 +34,7 @@ module _ (tables : Tables) (now c n kind : ℕ) (other : kind ≢ 1) where
   lease-stays noSpareRow = refl
   lease-stays cookieInUse = refl
   lease-stays noFreeId = refl
+  lease-stays (renewed row) = refl
   lease-stays (granted row id cookie) = refl
 
   establish-stays : (id : ℕ) (random : List ℕ) (d : EstablishDecision) → Stays (planEstablish tables c id random d)
@@ -46,7 +47,7 @@ module _ (tables : Tables) (now c n kind : ℕ) (other : kind ≢ 1) where
   each-stays = record {
     open-plan = refl;
     version-answer = λ t ok. absurd (other t);
-    lease = λ random. lease-stays (decideLease (tables .leases) now c random);
+    lease = λ random cookie. lease-stays (decideLease (tables .connections) (tables .leases) now c random cookie);
     extension = λ cookie.
         by-test Stays (ltb (rowToExtend (tables .leases) now c cookie) (endRow (partnerOf c))) (λ h. refl) (λ h. refl);
     establish-plan = λ id random long o. establish-stays id random (decideEstablish (tables .connections) (tables .leases) now c id);

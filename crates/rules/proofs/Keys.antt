@@ -37,6 +37,7 @@ module _ (a b : Tables) (call : Call) (same : SameButKeys a b) where
     connections = same .connections;
     leases = rw (same .leases) (same-refl _);
     live-ids = λ id. rw (same .leases);
+    elsewhere = λ r o. rw (same .leases);
     allowance = rw (same .allowances);
     clocks = rw (same .allowances);
   }

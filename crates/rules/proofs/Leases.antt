@@ -1,26 +1,27 @@
--- A lease is accepted, and extended, exactly as 01 says: the tests of the definitions against its sentences. Assumes nothing.
-use Prim.Native.Nat.{ℕ}
-use mathlib.Core.Path.{_≡_, refl, sym, _∙_}
+-- A lease is accepted, renewed and extended exactly as 01 and 02 say: the tests of the definitions against their sentences. Assumes nothing.
+use Prim.Native.Nat.{ℕ, zero, suc, _≤_, _<_}
+use mathlib.Core.Path.{_≡_, refl, sym, ap, _∙_}
 use mathlib.Core.Logic.{_↔_, _≢_}
-use mathlib.Core.Bool.{Bool, true, false, not, _&&_, false≢true}
+use mathlib.Core.Bool.{Bool, true, false, not, _&&_, true≢false, false≢true}
 use mathlib.Core.List.{List}
 use native.Mathlib.Omega.{arith}
+use native.Mathlib.Decide.{ℕ-discrete, decLt}
 use lib.Dec.{eqb, ltb}
-use borrow.Author.Tests.{eq-eqb, ne-eqb, eqb-true, lt-ltb, le-ltb, ltb-true, not-true, not-false}
+use borrow.Author.Tests.{eq-eqb, ne-eqb, eqb-true, lt-ltb, le-ltb, ltb-true, ltb-false, not-true, not-false}
 use Rattle.octets.specs.Octets.{if_then_else_, same}
 use Rattle.octets.proofs.Tests.{both-left, both-right}
 use Rattle.octets.proofs.Equality.{same-eq, same-refl}
 use Rattle.rules.specs.Sizes.{rowsPerPartner, rowCount, candidateCount}
 use Rattle.rules.specs.Searches.{firstFrom, firstRow, endRow, firstOwn, anyOwn}
-use Rattle.rules.specs.Tables.{partnerOf, ownerOf, hasSession, live, liveWithId, idOf, holder, cookieOf}
-use Rattle.rules.specs.Leases.{LeaseDecision, holdsLease, noSpareRow, cookieInUse, noFreeId, granted, holdsRow, spareRow, cookieTaken, randomCookie, candidate, idTaken, firstFree, decideLease, rowToExtend}
+use Rattle.rules.specs.Tables.{partnerOf, ownerOf, hasSession, expiry, live, liveWithId, idOf, holder, cookieOf, holderCounts}
+use Rattle.rules.specs.Leases.{LeaseDecision, holdsLease, noSpareRow, cookieInUse, noFreeId, renewed, granted, holdsRow, earlierSpare, spareRow, cookieTaken, randomCookie, candidate, idTaken, firstFree, idElsewhere, renewable, rowToRenew, renewOrGrant, decideLease, rowToExtend}
 use Rattle.rules.specs.Sessions.{refusedWith, rowOfId, decideEstablish}
 use Rattle.rules.specs.Reasons.{conditionOf}
-use Rattle.rules.specs.Effects.{HoldsNone, HasSpare, NewCookie, FreeCandidate, LeaseConditions, isGranted, FirstFree, LowestOwn, Extendable, Statuses}
+use Rattle.rules.specs.Effects.{HoldsNone, HasSpare, NewCookie, FreeCandidate, LeaseConditions, isAccepted, EarliestSpare, FirstFree, Renewable, LowestRenewable, LowestOwn, Extendable, Statuses}
 use Rattle.rules.specs.Explained.{FirstFailing}
-use Rattle.rules.proofs.Exactly.{eq-exactly, not-exactly, and-exactly}
-use Rattle.rules.proofs.Searches.{first-passes, first-below, none-passes, all-fail, first-found}
-use Rattle.rules.proofs.Decisions.{is-granted, own-row, own-found, own-none, own-passes}
+use Rattle.rules.proofs.Exactly.{eq-exactly, lt-exactly, not-exactly, and-exactly}
+use Rattle.rules.proofs.Searches.{first-passes, first-below, none-passes, all-fail, first-found, any-found}
+use Rattle.rules.proofs.Decisions.{is-renewed, is-granted, own-row, own-found, own-none, own-passes, own-is}
 
 -- ---- tests, and what they say
 
@@ -44,7 +45,7 @@ module _ (ls : List ℕ) (now p : ℕ) (test : ℕ → Bool) where
       go false e f = refl
 
 -- a row that has not the id, where it is live
-no-id : (ls : List ℕ) (now id r : ℕ) → (live ls now r ≡ true → idOf ls r ≢ id) → liveWithId ls now id r ≡ false
+pub no-id : (ls : List ℕ) (now id r : ℕ) → (live ls now r ≡ true → idOf ls r ≢ id) → liveWithId ls now id r ≡ false
 unfolding liveWithId
 no-id ls now id r f = go (live ls now r) refl
   where
@@ -52,19 +53,113 @@ no-id ls now id r f = go (live ls now r) refl
     go true e = ne-eqb (idOf ls r) id (f e)
     go false e = refl
 
--- ---- Lease
+-- ---- the row of a new lease
+
+module _ (ls : List ℕ) (now p : ℕ) where
+  abbrev spare-test : ℕ → Bool
+  spare-test r = not (live ls now r) && not (earlierSpare ls now p r)
+
+  abbrev earlier-test : ℕ → ℕ → Bool
+  earlier-test r k = not (live ls now k) && ltb (expiry ls k) (expiry ls r)
+
+  -- none is earlier than the earliest, and where none is, it is one
+  none-earlier : (r : ℕ) → earlierSpare ls now p r ≡ false
+      → (k : ℕ) → ownerOf k ≡ p → live ls now k ≡ false → expiry ls r ≤ expiry ls k
+  unfolding earlierSpare
+  none-earlier r h k o l =
+      let fails : ltb (expiry ls k) (expiry ls r) ≡ false =
+      sym (rw l) ∙ none-passes (earlier-test r) (firstRow p) rowsPerPartner h k (omega arith) (omega arith) in
+      ltb-false (expiry ls k) (expiry ls r) fails
+
+  earliest-passes : (r : ℕ) → live ls now r ≡ false → ((k : ℕ) → ownerOf k ≡ p → live ls now k ≡ false → expiry ls r ≤ expiry ls k)
+      → spare-test r ≡ true
+  unfolding earlierSpare
+  earliest-passes r l least = rw (l, all-fail (earlier-test r) (firstRow p) rowsPerPartner (λ k a b. go k (omega arith) (live ls now k) refl))
+    where
+      go : (k : ℕ) → ownerOf k ≡ p → (t : Bool) → live ls now k ≡ t → not t && ltb (expiry ls k) (expiry ls r) ≡ false
+      go k o true e = refl
+      go k o false e = le-ltb (expiry ls k) (expiry ls r) (least k o e)
+
+  abbrev Earliest : Type 0
+  Earliest = (k : ℕ) × (ownerOf k ≡ p) × (spare-test k ≡ true)
+
+  -- Of rows that are not live one is the earliest: from any of them, earlier and earlier ones are at most as many as its expiry.
+  some-earliest : (n r : ℕ) → expiry ls r < n → ownerOf r ≡ p → live ls now r ≡ false → Earliest
+  unfolding earlierSpare
+  some-earliest zero r less o l = absurd (omega arith)
+  some-earliest (suc n) r less o l = go (earlierSpare ls now p r) refl (some-earliest n)
+    where
+      go : (t : Bool) → earlierSpare ls now p r ≡ t → ((k : ℕ) → expiry ls k < n → ownerOf k ≡ p → live ls now k ≡ false → Earliest)
+          → Earliest
+      go false e ih = (r, o, rw (l, e))
+      go true e ih =
+          let k = any-found (earlier-test r) (firstRow p) rowsPerPartner e in
+          let before = ltb-true (expiry ls (k .0)) (expiry ls r) (both-right (not (live ls now (k .0))) _ (k .3)) in
+          ih (k .0) (omega (arith, before)) (omega (arith, k .1, k .2)) (not-true _ (both-left _ _ (k .3)))
+
+  pub earliest-spare : (c : ℕ) → p ≡ partnerOf c → spareRow ls now p < endRow p → EarliestSpare ls now c (spareRow ls now p)
+  unfolding spareRow
+  earliest-spare c e l =
+      let row = firstOwn p spare-test in
+      let passed = own-passes p spare-test l in
+      let is-spare = not-true _ (both-left (not (live ls now row)) _ passed) in
+      let least = none-earlier row (not-true _ (both-right (not (live ls now row)) _ passed)) in
+      record {
+        own = own-row p spare-test l .owner ∙ e;
+        spare = is-spare;
+        earliest = λ k o. least k (o ∙ sym e);
+        lowest = λ k o s q. not-below k (o ∙ sym e) (earliest-passes k s (λ j i t. rw q (least j i t))) (decLt k row);
+      }
+    where
+      not-below : (k : ℕ) → ownerOf k ≡ p → spare-test k ≡ true → Dec (k < firstOwn p spare-test) → firstOwn p spare-test ≤ k
+      not-below k o passes (yes below) =
+          absurd (true≢false (sym passes ∙ first-below spare-test (firstRow p) rowsPerPartner k (omega arith) below))
+      not-below k o passes (no above) = omega arith
+
+-- ---- a row that is renewable
+
+-- "an id that no other live row has"
+alone-exactly : (ls : List ℕ) (now r : ℕ)
+    → (not (idElsewhere ls now r) ≡ true) ↔ ((k : ℕ) → k < rowCount → k ≢ r → live ls now k ≡ true → idOf ls k ≢ idOf ls r)
+unfolding idElsewhere liveWithId
+alone-exactly ls now r =
+    let test : ℕ → Bool = λ k. not (eqb k r) && liveWithId ls now (idOf ls r) k in (
+      (λ h k k< n l e.
+          true≢false
+          (sym (rw (ne-eqb k r n, l, eq-eqb (idOf ls k) (idOf ls r) e)) ∙ none-passes test 0 rowCount (not-true _ h) k (omega arith) k<)),
+      (λ f. rw (all-fail test 0 rowCount (λ k l u. fails k (ℕ-discrete k r) (f k u)))),
+    )
+  where
+    fails : (k : ℕ) → Dec (k ≡ r) → (k ≢ r → live ls now k ≡ true → idOf ls k ≢ idOf ls r)
+        → not (eqb k r) && liveWithId ls now (idOf ls r) k ≡ false
+    fails k (yes e) f = rw (eq-eqb k r e)
+    fails k (no n) f = rw (ne-eqb k r n) (no-id ls now (idOf ls r) k (f n))
+
+pub renewable-exactly : (cs ls : List ℕ) (now : ℕ) (cookie : List ℕ) (r : ℕ)
+    → (renewable cs ls now cookie r ≡ true) ↔ Renewable cs ls now cookie r
+unfolding renewable
+renewable-exactly cs ls now cookie r =
+    let e = and-exactly _ _ has-cookie (and-exactly _ _ (lt-exactly 0 (expiry ls r)) (and-exactly _ _ held (alone-exactly ls now r))) in (
+      (λ h. let q = e .0 h in record { cookie-is = q .0; used = q .1 .0; not-held = q .1 .1 .0; id-alone = q .1 .1 .1 }),
+      (λ q. e .1 (q .cookie-is, (q .used, (q .not-held, q .id-alone)))),
+    )
+  where
+    has-cookie : (same (cookieOf ls r) cookie ≡ true) ↔ (cookieOf ls r ≡ cookie)
+    has-cookie = (same-eq (cookieOf ls r) cookie, (λ e. rw e (same-refl cookie)))
+
+    held : (not (live ls now r && holderCounts cs ls r) ≡ true) ↔ (live ls now r ≡ true → holderCounts cs ls r ≡ false)
+    held = implies (live ls now r) (holderCounts cs ls r)
+      where
+        implies : (t u : Bool) → (not (t && u) ≡ true) ↔ (t ≡ true → u ≡ false)
+        implies true true = ((λ h. absurd (false≢true h)), (λ f. absurd (true≢false (f refl))))
+        implies true false = ((λ h e. refl), (λ f. refl))
+        implies false u = ((λ h e. absurd (false≢true e)), (λ f. refl))
+
+-- ---- Lease: the four conditions
 
 module _ (ls : List ℕ) (now c : ℕ) (random : List ℕ) where
   abbrev p : ℕ
   p = partnerOf c
-
-  abbrev decision : Bool → Bool → Bool → Bool → LeaseDecision
-  decision holds spare cookie free =
-      if holds then holdsLease
-      else if not spare then noSpareRow
-      else if cookie then cookieInUse
-      else if not free then noFreeId
-      else granted (spareRow ls now p) (candidate random (firstFree ls now random)) (randomCookie random)
 
   -- each condition as a test
   holds-exactly : (not (holdsRow ls now c) ≡ true) ↔ HoldsNone ls now c
@@ -77,13 +172,15 @@ module _ (ls : List ℕ) (now c : ℕ) (random : List ℕ) where
 
   spare-exactly : (ltb (spareRow ls now p) (endRow p) ≡ true) ↔ HasSpare ls now c
   unfolding spareRow
-  spare-exactly =
-      let spare : ℕ → Bool = λ r. not (live ls now r) in (
-        (λ h.
-            let l = ltb-true (firstOwn p spare) (endRow p) h in
-            (firstOwn p spare, own-row p spare l .owner, not-true _ (own-passes p spare l))),
-        (λ q. own-found p spare (q .0) (q .1) (rw (q .2))),
-      )
+  spare-exactly = (
+    (λ h.
+        let l = ltb-true (firstOwn p (spare-test ls now p)) (endRow p) h in
+        let row = earliest-spare ls now p c refl l in
+        (firstOwn p (spare-test ls now p), row .own, row .spare)),
+    (λ q.
+        let k = some-earliest ls now p (suc (expiry ls (q .0))) (q .0) (omega arith) (q .1) (q .2) in
+        own-found p (spare-test ls now p) (k .0) (k .1) (k .2)),
+  )
 
   cookie-exactly : (not (cookieTaken ls now p (randomCookie random)) ≡ true) ↔ NewCookie ls now c random
   unfolding cookieTaken
@@ -109,28 +206,6 @@ module _ (ls : List ℕ) (now c : ℕ) (random : List ℕ) where
             lt-ltb k candidateCount (omega (arith, q .1))),
       )
 
-  -- what is decided, by the four tests
-  record ByTests (none spare cookie free : Bool) (d : LeaseDecision) : Type 0 where
-    one : eqb (conditionOf d) 1 ≡ not none
-    two : eqb (conditionOf d) 2 ≡ none && not spare
-    three : eqb (conditionOf d) 3 ≡ none && (spare && not cookie)
-    four : eqb (conditionOf d) 4 ≡ none && (spare && (cookie && not free))
-    all : eqb (conditionOf d) 0 ≡ none && (spare && (cookie && free))
-    grants : isGranted d ≡ none && (spare && (cookie && free))
-
-  by-tests : (holds spare cookie free : Bool) → ByTests (not holds) spare (not cookie) free (decision holds spare cookie free)
-  by-tests true spare cookie free = record { one = refl; two = refl; three = refl; four = refl; all = refl; grants = refl }
-  by-tests false false cookie free = record { one = refl; two = refl; three = refl; four = refl; all = refl; grants = refl }
-  by-tests false true true free = record { one = refl; two = refl; three = refl; four = refl; all = refl; grants = refl }
-  by-tests false true false false = record { one = refl; two = refl; three = refl; four = refl; all = refl; grants = refl }
-  by-tests false true false true = record { one = refl; two = refl; three = refl; four = refl; all = refl; grants = refl }
-
-  tested : ByTests (not (holdsRow ls now c)) (ltb (spareRow ls now p) (endRow p)) (not (cookieTaken ls now p (randomCookie random)))
-      (ltb (firstFree ls now random) candidateCount)
-      (decideLease ls now c random)
-  unfolding decideLease
-  tested = by-tests (holdsRow ls now c) _ (cookieTaken ls now p (randomCookie random)) _
-
   all-exactly : (not (holdsRow ls now c)
       && (ltb (spareRow ls now p) (endRow p)
       && (not (cookieTaken ls now p (randomCookie random)) && ltb (firstFree ls now random) candidateCount))
@@ -142,54 +217,163 @@ module _ (ls : List ℕ) (now c : ℕ) (random : List ℕ) where
         (λ q. e .1 (q .holds-none, (q .spare, (q .new-cookie, q .free)))),
       )
 
-  pub lease-exactly : (isGranted (decideLease ls now c random) ≡ true) ↔ LeaseConditions ls now c random
-  lease-exactly = rw (tested .grants) all-exactly
+  -- ---- what is decided: of any connections and any cookie in the request
 
-  -- "which of the four lease conditions failed first in 01's order, or that all held"
-  pub first-failing : FirstFailing ls now c random (conditionOf (decideLease ls now c random))
-  first-failing = record {
-    one = by-number 1 (tested .one) (not-exactly _ holds-exactly);
-    two = by-number 2 (tested .two) (and-exactly _ _ holds-exactly (not-exactly _ spare-exactly));
-    three = by-number 3 (tested .three) (and-exactly _ _ holds-exactly (and-exactly _ _ spare-exactly (not-exactly _ cookie-exactly)));
-    four =
-        by-number 4 (tested .four)
-        (and-exactly _ _ holds-exactly (and-exactly _ _ spare-exactly (and-exactly _ _ cookie-exactly (not-exactly _ free-exactly))));
-    all = by-number 0 (tested .all) all-exactly;
-  }
-    where
-      by-number : {A : Type 0} {t : Bool} (k : ℕ) → eqb (conditionOf (decideLease ls now c random)) k ≡ t → (t ≡ true) ↔ A
-          → (conditionOf (decideLease ls now c random) ≡ k) ↔ A
-      by-number k e f =
-          let number = eq-exactly (conditionOf (decideLease ls now c random)) k in
-          ((λ h. f .0 (sym e ∙ number .1 h)), (λ a. number .0 (e ∙ f .1 a)))
+  module _ (cs cookie : List ℕ) where
+    abbrev decision : LeaseDecision
+    decision = decideLease cs ls now c random cookie
 
-  -- What is granted: the first free candidate, in the lowest row that isn't live.
-  pub first-free : (row id : ℕ) (cookie : List ℕ) → decideLease ls now c random ≡ granted row id cookie
-      → FirstFree ls now c random row id cookie
-  unfolding spareRow firstFree idTaken liveWithId candidate
-  first-free row id cookie e =
-      let g = is-granted ls now c random row id cookie e in
-      let spare-test : ℕ → Bool = λ r. not (live ls now r) in
-      let free-test : ℕ → Bool = λ k. not (idTaken ls now (candidate random k)) in
-      let k = firstFrom free-test 0 candidateCount in
-      record {
-        own = g .own .owner;
-        spare = g .spare;
-        lower-live = λ r o l.
-            not-false _ (first-below spare-test (firstRow p) rowsPerPartner r (omega arith) (rw (g .row-is) at l));
-        place = k;
-        in-fourteen = g .found;
-        id-is = g .id-is;
-        free = λ r r< l h.
-            false≢true
-            (sym (none-passes (liveWithId ls now id) 0 rowCount (g .id-free) r (omega arith) r<)
-            ∙ rw l (eq-eqb (idOf ls r) id h));
-        earlier-taken = λ j l f.
-            false≢true
-            (sym (all-fail (liveWithId ls now (candidate random j)) 0 rowCount (λ r a b. no-id ls now (candidate random j) r (f r b)))
-            ∙ not-false _ (first-below free-test 0 candidateCount j (omega arith) l));
-        cookie-is = g .cookie-is;
-      }
+    abbrev decide : Bool → Bool → Bool → Bool → LeaseDecision → LeaseDecision
+    decide holds spare taken free last =
+        if holds then holdsLease
+        else if not spare then noSpareRow
+        else if taken then cookieInUse
+        else if not free then noFreeId
+        else last
+
+    -- by the four tests
+    record ByTests (none spare new free : Bool) (last d : LeaseDecision) : Type 0 where
+      one : eqb (conditionOf d) 1 ≡ not none
+      two : eqb (conditionOf d) 2 ≡ none && not spare
+      three : eqb (conditionOf d) 3 ≡ none && (spare && not new)
+      four : eqb (conditionOf d) 4 ≡ none && (spare && (new && not free))
+      all : eqb (conditionOf d) 0 ≡ none && (spare && (new && free))
+      accepts : isAccepted d ≡ none && (spare && (new && free))
+      then-last : none && (spare && (new && free)) ≡ true → d ≡ last
+
+    not-yet : {A : Type 0} → false ≡ true → A
+    not-yet h = absurd (false≢true h)
+
+    by-tests : (holds spare taken free : Bool) (last : LeaseDecision) → conditionOf last ≡ 0 → isAccepted last ≡ true
+        → ByTests (not holds) spare (not taken) free last (decide holds spare taken free last)
+    by-tests true spare taken free last z y = record { one = refl; two = refl; three = refl; four = refl; all = refl; accepts = refl; then-last = not-yet }
+    by-tests false false taken free last z y = record { one = refl; two = refl; three = refl; four = refl; all = refl; accepts = refl; then-last = not-yet }
+    by-tests false true true free last z y = record { one = refl; two = refl; three = refl; four = refl; all = refl; accepts = refl; then-last = not-yet }
+    by-tests false true false false last z y = record { one = refl; two = refl; three = refl; four = refl; all = refl; accepts = refl; then-last = not-yet }
+    by-tests false true false true last z y =
+        record { one = rw z; two = rw z; three = rw z; four = rw z; all = rw z; accepts = y; then-last = λ h. refl }
+
+    abbrev Accepts : LeaseDecision → Type 0
+    Accepts d = (conditionOf d ≡ 0) × (isAccepted d ≡ true)
+
+    last-accepts : Accepts (renewOrGrant cs ls now c random cookie)
+    unfolding renewOrGrant
+    last-accepts = go (ltb (rowToRenew cs ls now p cookie) (endRow p)) _ _ (refl, refl) (refl, refl)
+      where
+        go : (t : Bool) (x y : LeaseDecision) → Accepts x → Accepts y → Accepts (if t then x else y)
+        go true x y f g = f
+        go false x y f g = g
+
+    tested : ByTests (not (holdsRow ls now c)) (ltb (spareRow ls now p) (endRow p)) (not (cookieTaken ls now p (randomCookie random)))
+        (ltb (firstFree ls now random) candidateCount)
+        (renewOrGrant cs ls now c random cookie)
+        decision
+    unfolding decideLease
+    tested = by-tests (holdsRow ls now c) _ (cookieTaken ls now p (randomCookie random)) _ _ (last-accepts .0) (last-accepts .1)
+
+    -- Accepted as 01 says, "cookie or not".
+    pub lease-exactly : (isAccepted decision ≡ true) ↔ LeaseConditions ls now c random
+    lease-exactly = rw (tested .accepts) all-exactly
+
+    -- "which of the four lease conditions failed first in 01's order, or that all held"
+    pub first-failing : FirstFailing ls now c random (conditionOf decision)
+    first-failing = record {
+      one = by-number 1 (tested .one) (not-exactly _ holds-exactly);
+      two = by-number 2 (tested .two) (and-exactly _ _ holds-exactly (not-exactly _ spare-exactly));
+      three = by-number 3 (tested .three) (and-exactly _ _ holds-exactly (and-exactly _ _ spare-exactly (not-exactly _ cookie-exactly)));
+      four =
+          by-number 4 (tested .four)
+          (and-exactly _ _ holds-exactly (and-exactly _ _ spare-exactly (and-exactly _ _ cookie-exactly (not-exactly _ free-exactly))));
+      all = by-number 0 (tested .all) all-exactly;
+    }
+      where
+        by-number : {A : Type 0} {t : Bool} (k : ℕ) → eqb (conditionOf decision) k ≡ t → (t ≡ true) ↔ A → (conditionOf decision ≡ k) ↔ A
+        by-number k e f =
+            let number = eq-exactly (conditionOf decision) k in
+            ((λ h. f .0 (sym e ∙ number .1 h)), (λ a. number .0 (e ∙ f .1 a)))
+
+    -- What is granted: the first free candidate, in the earliest row that isn't live.
+    pub first-free : (row id : ℕ) (drawn : List ℕ) → decision ≡ granted row id drawn → FirstFree ls now c random row id drawn
+    unfolding firstFree idTaken liveWithId candidate
+    first-free row id drawn e =
+        let g = is-granted ls now c random cs cookie row id drawn e in
+        let free-test : ℕ → Bool = λ k. not (idTaken ls now (candidate random k)) in
+        record {
+          row-is = rw (g .row-is) (earliest-spare ls now p c refl (rw (← g .row-is) (g .own .high)));
+          place = firstFrom free-test 0 candidateCount;
+          in-fourteen = g .found;
+          id-is = g .id-is;
+          free = λ r r< l h.
+              false≢true
+              (sym (none-passes (liveWithId ls now id) 0 rowCount (g .id-free) r (omega arith) r<)
+              ∙ rw l (eq-eqb (idOf ls r) id h));
+          earlier-taken = λ j l f.
+              false≢true
+              (sym (all-fail (liveWithId ls now (candidate random j)) 0 rowCount (λ r a b. no-id ls now (candidate random j) r (f r b)))
+              ∙ not-false _ (first-below free-test 0 candidateCount j (omega arith) l));
+          cookie-is = g .cookie-is;
+        }
+
+    -- ---- renewed, or new
+
+    abbrev row-test : ℕ → Bool
+    row-test = renewable cs ls now cookie
+
+    not-renewable : (k : ℕ) → (Renewable cs ls now cookie k → ⊥) → row-test k ≡ false
+    not-renewable k n = not-true _ (not-exactly _ (renewable-exactly cs ls now cookie k) .1 n)
+
+    -- what the search finds
+    lowest-renewable : ltb (rowToRenew cs ls now p cookie) (endRow p) ≡ true
+        → LowestRenewable cs ls now c cookie (rowToRenew cs ls now p cookie)
+    unfolding rowToRenew
+    lowest-renewable h =
+        let l = ltb-true (firstOwn p row-test) (endRow p) h in
+        record {
+          own = own-row p row-test l .owner;
+          renewable = renewable-exactly cs ls now cookie _ .0 (own-passes p row-test l);
+          lower-not = λ k o below q.
+              true≢false
+              (sym (renewable-exactly cs ls now cookie k .1 q) ∙ first-below row-test (firstRow p) rowsPerPartner k (omega arith) below);
+        }
+
+    -- "If accepted, and a row of the partner has that cookie, .., the lowest such row is renewed"
+    pub renewed-exactly : (row : ℕ) → (decision ≡ renewed row) ↔ (LeaseConditions ls now c random × LowestRenewable cs ls now c cookie row)
+    unfolding renewOrGrant rowToRenew
+    renewed-exactly row = (
+      (λ e.
+          let is = is-renewed ls now c random cs cookie row e in
+          let found = lt-ltb (rowToRenew cs ls now p cookie) (endRow p) (rw (← is .row-is) (is .own .high)) in
+          (lease-exactly .0 (ap isAccepted e), rw (is .row-is) (lowest-renewable found))),
+      (λ q.
+          let lowest = q .1 in
+          let passes = renewable-exactly cs ls now cookie row .1 (lowest .renewable) in
+          let found = own-found p row-test row (lowest .own) passes in
+          let row-is = own-is p row-test row (lowest .own) passes (λ k o l. not-renewable k (lowest .lower-not k o l)) in
+          tested .then-last (all-exactly .1 (q .0)) ∙ rw found (ap renewed row-is)),
+    )
+
+    -- and else a new lease is granted
+    pub granted-exactly : ((row : ℕ) × (id : ℕ) × (drawn : List ℕ) × (decision ≡ granted row id drawn))
+        ↔ (LeaseConditions ls now c random × ((r : ℕ) → ownerOf r ≡ partnerOf c → Renewable cs ls now cookie r → ⊥))
+    unfolding renewOrGrant rowToRenew
+    granted-exactly = (
+      (λ g. (
+        lease-exactly .0 (ap isAccepted (g .3)),
+        (λ r o q.
+            let found = own-found p row-test r o (renewable-exactly cs ls now cookie r .1 q) in
+            clash (sym (renewed-exactly _ .1 (lease-exactly .0 (ap isAccepted (g .3)), lowest-renewable found)) ∙ g .3)),
+      )),
+      (λ q.
+          let none = own-none p row-test (λ r o. not-renewable r (q .1 r o)) in (
+            spareRow ls now p,
+            candidate random (firstFree ls now random),
+            randomCookie random,
+            tested .then-last (all-exactly .1 (q .0)) ∙ rw none,
+          )),
+    )
+      where
+        clash : {row spare id : ℕ} {drawn : List ℕ} → renewed row ≡ granted spare id drawn → ⊥
+        clash z = let w : _≡_ {A = ℕ} 0 1 = cc z in omega arith
 
 -- ---- Extension
 

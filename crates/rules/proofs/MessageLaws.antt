@@ -1,7 +1,7 @@
 -- What each message does where it is answered with 0: the whole answer, both buffers, and every byte of the tables. Assumes nothing.
 use Prim.Native.Nat.{ℕ, _+_, _^_, _≤_, _<_}
-use mathlib.Core.Path.{_≡_, refl, _∙_}
-use mathlib.Core.Logic.{⊎-elim}
+use mathlib.Core.Path.{_≡_, refl, ap, _∙_}
+use mathlib.Core.Logic.{_≢_, ⊎-elim}
 use mathlib.Core.Bool.{true, false, _||_, true≢false}
 use mathlib.Core.Option.{some}
 use mathlib.Core.List.{List, [], _∷_}
@@ -16,24 +16,24 @@ use Rattle.octets.proofs.Parts.{length-part}
 use Rattle.svsc.specs.Messages.{Message, cookieBytes, VersionAnswer, LeaseRequest, LeaseRequestWithCookie, LeaseGranted, ExtensionRequest, ExtensionGranted, EstablishRequest, EstablishRefused, Established, EstablishNotification, SessionEnd, DataSend, Keepalive, encode, typeOf, decode}
 use Rattle.rules.specs.Sizes.{connectionCount, rowCount, randomBytes}
 use Rattle.rules.specs.Searches.{endRow}
-use Rattle.rules.specs.Tables.{Tables, partnerOf, connectionAt, opened, state, peer, inSession, hasSession}
-use Rattle.rules.specs.Leases.{LeaseDecision, holdsLease, noSpareRow, cookieInUse, noFreeId, granted, decideLease, leaseEnd, rowToExtend}
+use Rattle.rules.specs.Tables.{Tables, partnerOf, connectionAt, opened, state, peer, inSession, hasSession, idOf, cookieAt, cookieOf}
+use Rattle.rules.specs.Leases.{LeaseDecision, holdsLease, noSpareRow, cookieInUse, noFreeId, renewed, granted, decideLease, leaseEnd, rowToExtend}
 use Rattle.rules.specs.Sessions.{refusedWith, establishedWith, decideEstablish}
 use Rattle.rules.specs.Calls.{Call, message, Outcome}
 use Rattle.rules.specs.Plans.{replyOnly, relayOnly, planVersionAnswer, planLease, planExtension, planEstablish, planEnd, planData, planMessage, plan}
 use Rattle.rules.specs.Checks.{precheck}
 use Rattle.rules.specs.Step.{step, done}
-use Rattle.rules.specs.Effects.{RepliedOnly, RelayedOnly, SentNothing, VersionTaken, VersionRefused, KeysToOwners, SessionEnded, DataRelayed, TablesStay, LeaseTold, isGranted, Extendable, ExtensionTold}
+use Rattle.rules.specs.Effects.{RepliedOnly, RelayedOnly, SentNothing, VersionTaken, VersionRefused, KeysToOwners, SessionEnded, DataRelayed, TablesStay, LeaseTold, LeaseRenewed, isAccepted, Extendable, ExtensionTold}
 use Rattle.rules.specs.Laws.{Accepted}
 use Rattle.rules.proofs.Checks.{Passed, passed, from-peer, random-length, has-session, is-permitted, open-permits}
 use Rattle.rules.proofs.Records.{byte-put}
-use Rattle.rules.proofs.Messages.{decode-type, end-read, data-read, lease-read}
+use Rattle.rules.proofs.Messages.{decode-type, end-read, data-read, no-bytes, lease-form}
 use Rattle.rules.proofs.Answers.{is-done, done-passed}
 use Rattle.rules.proofs.Connections.{cleared-record, fresh-record, paired, end-clears-first, end-clears-second, all-keys}
-use Rattle.rules.proofs.Rows.{expiry-set, granted-row}
-use Rattle.rules.proofs.Changes.{changed-state, changed-clear, changed-end, changed-expiry, changed-grant}
-use Rattle.rules.proofs.Decisions.{is-granted, is-extended, is-established}
-use Rattle.rules.proofs.Leases.{extension-exactly}
+use Rattle.rules.proofs.Rows.{expiry-set, granted-row, renewed-row}
+use Rattle.rules.proofs.Changes.{changed-state, changed-clear, changed-end, changed-expiry, changed-grant, changed-renew}
+use Rattle.rules.proofs.Decisions.{is-renewed, is-granted, is-extended, is-established}
+use Rattle.rules.proofs.Leases.{extension-exactly, renewable-exactly}
 use Rattle.rules.proofs.Sessions.{establish-pairs, callers-record, holders-record, changed-establish}
 
 -- ---- plans that send to one side alone
@@ -185,23 +185,29 @@ module _
 
     -- ---- leases
 
-    lease-outcome : typeOf m ≡ 2 → o ≡ done tables sent (planLease tables now c (decideLease ls now c random))
+    -- by the cookie behind the first two bytes, which is none of a request that has none
+    abbrev decision : LeaseDecision
+    decision = decideLease cs ls now c random (part m 2 24)
+
+    lease-outcome : typeOf m ≡ 2 → o ≡ done tables sent (planLease tables now c decision)
     unfolding planMessage
     lease-outcome t =
         ⊎-elim
-        (λ d. outcome-of LeaseRequest d)
+        (λ d. outcome-of LeaseRequest (d .1) ∙ rw (d .0))
         (λ d. outcome-of (LeaseRequestWithCookie (part m 2 24)) d)
-        (lease-read m (from-peer tables now c m random reply relay h) t)
+        (lease-form m (from-peer tables now c m random reply relay h) t)
 
-    -- An accepted lease is told as it stands in its row: id, cookie, this holder, and an hour from now.
-    pub lease-told : typeOf m ≡ 2 → (row id : ℕ) (cookie : List ℕ) → decideLease ls now c random ≡ granted row id cookie
+    until< : now + 3600 < 256 ^ 8
+    until< = omega (arith, ok .in-limit)
+
+    -- A new lease is told as it stands in its row: id, cookie, this holder, and an hour from now.
+    pub lease-told : typeOf m ≡ 2 → (row id : ℕ) (cookie : List ℕ) → decision ≡ granted row id cookie
         → LeaseTold tables sent row (now + 3600) id cookie c o (encode (LeaseGranted id cookie (now + 3600)))
     unfolding done planLease leaseEnd
     lease-told t row id cookie d =
-        let g = is-granted ls now c random row id cookie d in
+        let g = is-granted ls now c random cs (part m 2 24) row id cookie d in
         let size : length cookie ≡ cookieBytes = rw (g .cookie-is) (length-part random 0 cookieBytes (omega (arith, long))) in
         let row< : row < rowCount = omega (arith, g .own .high, ok .known) in
-        let until< : now + 3600 < 256 ^ 8 = omega (arith, ok .in-limit) in
         rw (lease-outcome t, d)
         (record {
           sent = replied tables sent cs _ _;
@@ -210,22 +216,48 @@ module _
           connections = refl;
         })
 
+    -- A renewed one is told with the id and the cookie that it had, and has this holder and an hour from now; nothing else changes.
+    pub lease-renewed : typeOf m ≡ 2 → (row : ℕ) → decision ≡ renewed row
+        → LeaseRenewed tables sent row (now + 3600) c o (encode (LeaseGranted (idOf ls row) (cookieOf ls row) (now + 3600)))
+    unfolding done planLease leaseEnd
+    lease-renewed t row d =
+        let row< : row < rowCount = omega (arith, is-renewed ls now c random cs (part m 2 24) row d .own .high, ok .known) in
+        rw (lease-outcome t, d)
+        (record {
+          sent = replied tables sent cs _ _;
+          written = renewed-row ls row (now + 3600) c (ok .leases) row< until<;
+          others = changed-renew ls row (now + 3600) c;
+          connections = refl;
+        })
+
+    -- A request without a cookie is not one for renewal: no row has a cookie of no bytes.
+    pub new-without-cookie : length m ≡ 2 → (row : ℕ) → decision ≢ renewed row
+    unfolding cookieOf
+    new-without-cookie two row d =
+        let is = is-renewed ls now c random cs (part m 2 24) row d in
+        let cookie-is = renewable-exactly cs ls now (part m 2 24) row .0 (is .passes) .cookie-is in
+        let row< : row < rowCount = omega (arith, is .own .high, ok .known) in
+        let long = length-part ls (cookieAt row) cookieBytes (omega (arith, ok .leases)) in
+        let short : length (part m 2 24) ≡ 0 = rw (no-bytes m two) in
+        omega (arith, ap length cookie-is)
+
     -- Otherwise accepted 0, and nothing changes.
-    pub lease-refused : typeOf m ≡ 2 → isGranted (decideLease ls now c random) ≡ false → RepliedOnly sent o (3 ∷ 0 ∷ []) × TablesStay tables o
+    pub lease-refused : typeOf m ≡ 2 → isAccepted decision ≡ false → RepliedOnly sent o (3 ∷ 0 ∷ []) × TablesStay tables o
     unfolding done planLease encode
-    lease-refused t n = rw (lease-outcome t) (go (decideLease ls now c random) n)
+    lease-refused t n = rw (lease-outcome t) (go decision n)
       where
         refused : RepliedOnly sent (done tables sent (replyOnly cs ls (3 ∷ 0 ∷ []))) (3 ∷ 0 ∷ [])
             × TablesStay tables (done tables sent (replyOnly cs ls (3 ∷ 0 ∷ [])))
         refused = (replied tables sent cs ls _, record { connections = refl; leases = refl })
 
-        go : (d : LeaseDecision) → isGranted d ≡ false
+        go : (d : LeaseDecision) → isAccepted d ≡ false
             → RepliedOnly sent (done tables sent (planLease tables now c d)) (3 ∷ 0 ∷ [])
             × TablesStay tables (done tables sent (planLease tables now c d))
         go holdsLease n = refused
         go noSpareRow n = refused
         go cookieInUse n = refused
         go noFreeId n = refused
+        go (renewed row) n = absurd (true≢false n)
         go (granted row id cookie) n = absurd (true≢false n)
 
     -- An extension for which there is a row gives it an hour from now, and says so.
@@ -236,7 +268,6 @@ module _
         let found = extension-exactly ls now c cookie .1 q in
         let own = is-extended ls now c cookie found .0 in
         let row< : rowToExtend ls now c cookie < rowCount = omega (arith, own .high, ok .known) in
-        let until< : now + 3600 < 256 ^ 8 = omega (arith, ok .in-limit) in
         rw
         (outcome-of (ExtensionRequest cookie) d, found)
         (record {

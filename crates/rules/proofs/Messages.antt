@@ -13,6 +13,7 @@ use lib.ListN.{length, getD, drop}
 use borrow.Author.Tests.{eqb-true, leb-true}
 use Rattle.octets.specs.Octets.{byteAt, part, numberAt}
 use Rattle.octets.proofs.Tests.{both-left, both-right}
+use Rattle.octets.proofs.Parts.{part-end, none-past}
 use Rattle.svsc.specs.Messages.{Message, VersionAnswer, LeaseRequest, LeaseRequestWithCookie, ExtensionRequest, EstablishRequest, SessionEnd, DataSend, Keepalive, longestMessage, encode, typeOf, when, _orElse_, readings, decode, isSome, sentByPeers, fromPeer}
 use Rattle.rules.specs.Layout.{ByType}
 
@@ -146,20 +147,23 @@ module _ (m : List ℕ) where
   unfolding readings
   data-read h t = row-read 11 (leb (length m) longestMessage) (DataSend (drop 1 m)) h t refl
 
-  -- a message of type 2
+  -- a message of type 2: of the form of two bytes, or with a cookie
   either-form : (a b : Bool) (x : Message) (y : List ℕ → Message) (k : List ℕ) → isSome (when a x orElse when b (y k)) ≡ true
-      → ((when a x orElse when b (y k)) ≡ some x) ⊎ ((when a x orElse when b (y k)) ≡ some (y k))
-  either-form true b x y k h = inl refl
+      → ((a ≡ true) × ((when a x orElse when b (y k)) ≡ some x)) ⊎ ((when a x orElse when b (y k)) ≡ some (y k))
+  either-form true b x y k h = inl (refl, refl)
   either-form false true x y k h = inr refl
   either-form false false x y k h = absurd (false≢true h)
 
-  pub lease-read : fromPeer m ≡ true → typeOf m ≡ 2
-      → (decode m ≡ some LeaseRequest) ⊎ (decode m ≡ some (LeaseRequestWithCookie (part m 2 24)))
+  pub no-bytes : length m ≡ 2 → part m 2 24 ≡ []
+  no-bytes e = part-end m 2 24 (omega arith) ∙ sym (none-past m 2 (omega arith))
+
+  pub lease-form : fromPeer m ≡ true → typeOf m ≡ 2
+      → ((part m 2 24 ≡ []) × (decode m ≡ some LeaseRequest)) ⊎ (decode m ≡ some (LeaseRequestWithCookie (part m 2 24)))
   unfolding fromPeer decode readings
-  lease-read h t =
+  lease-form h t =
       let e = ap (λ (i : ℕ). getD (readings m) i none) t in
       let known = ap isSome (sym e) ∙ both-right (getD sentByPeers (typeOf m) false) (isSome (decode m)) h in
-      ⊎-elim (λ s. inl (e ∙ s)) (λ s. inr (e ∙ s))
+      ⊎-elim (λ s. inl (no-bytes (eqb-true (length m) 2 (both-left _ _ (s .0))), e ∙ s .1)) (λ s. inr (e ∙ s))
       (either-form
       (eqb (length m) 2 && eqb (byteAt m 1) 0)
       (eqb (length m) 26 && eqb (byteAt m 1) 1)
@@ -167,6 +171,10 @@ module _ (m : List ℕ) where
       LeaseRequestWithCookie
       (part m 2 24)
       known)
+
+  lease-read : fromPeer m ≡ true → typeOf m ≡ 2
+      → (decode m ≡ some LeaseRequest) ⊎ (decode m ≡ some (LeaseRequestWithCookie (part m 2 24)))
+  lease-read h t = ⊎-elim (λ s. inl (s .1)) (λ s. inr s) (lease-form h t)
 
   -- the version answer
   answer-read : fromPeer m ≡ true → typeOf m ≡ 1 → (decode m ≡ some (VersionAnswer 0)) ⊎ (decode m ≡ some (VersionAnswer 1))

@@ -3,7 +3,7 @@ use Prim.Native.Nat.{ℕ, suc}
 use mathlib.Core.Path.{_≡_, refl}
 use mathlib.Core.Bool.{Bool, true, false, _||_}
 use mathlib.Core.Option.{Option, none, some}
-use mathlib.Core.List.{List}
+use mathlib.Core.List.{List, []}
 use lib.Dec.{eqb}
 use lib.ListN.{length}
 use borrow.Author.Tests.{eq-eqb}
@@ -24,7 +24,7 @@ use Rattle.rules.proofs.Messages.{decode-type, data-length}
 pub record Each (P : Plan → Type 0) (tables : Tables) (now c received kind : ℕ) : Type 0 where
   pub open-plan : P (planOpen tables c)
   pub version-answer : kind ≡ 1 → (ok : ℕ) → P (planVersionAnswer tables c ok)
-  pub lease : (random : List ℕ) → P (planLease tables now c (decideLease (tables .leases) now c random))
+  pub lease : (random cookie : List ℕ) → P (planLease tables now c (decideLease (tables .connections) (tables .leases) now c random cookie))
   pub extension : (cookie : List ℕ) → P (planExtension tables now c cookie)
   pub establish-plan : (id : ℕ) (random : List ℕ) → length random ≡ randomBytes → isOpen (tables .connections) c ≡ true
       → P (planEstablish tables c id random (decideEstablish (tables .connections) (tables .leases) now c id))
@@ -49,8 +49,8 @@ module _
         → P (planMessage tables now c random o)
     unfolding planMessage encode
     of-message (some (VersionAnswer n)) ok h l t = each .version-answer (t (VersionAnswer n) refl) n
-    of-message (some LeaseRequest) ok h l t = each .lease random
-    of-message (some (LeaseRequestWithCookie cookie)) ok h l t = each .lease random
+    of-message (some LeaseRequest) ok h l t = each .lease random []
+    of-message (some (LeaseRequestWithCookie cookie)) ok h l t = each .lease random cookie
     of-message (some (ExtensionRequest cookie)) ok h l t = each .extension cookie
     of-message (some (EstablishRequest id)) ok h l t = each .establish-plan id random long (opened-by (ok (EstablishRequest id) refl))
     of-message (some SessionEnd) ok h l t = each .end-plan (h SessionEnd refl refl)

@@ -12,7 +12,7 @@ use Rattle.octets.proofs.Tests.{both-left}
 use Rattle.rules.specs.Sizes.{rowsPerPartner, candidateCount, leaseBytes, nobody}
 use Rattle.rules.specs.Searches.{firstFrom, anyFrom, firstRow, endRow, firstOwn, anyOwn}
 use Rattle.rules.specs.Tables.{partnerOf, ownerOf, connectionAt, peerAt, keysAt, leaseAt, idAt, holderAt, cookieAt, opened, closed, state, peer, inSession, hasSession, expiry, idOf, holder, cookieOf, live, liveWithId, holderCounts}
-use Rattle.rules.specs.Leases.{randomCookie, candidate, idTaken, firstFree, holdsRow, spareRow, cookieTaken, decideLease, rowToExtend, releaseFrom}
+use Rattle.rules.specs.Leases.{randomCookie, candidate, idTaken, firstFree, holdsRow, earlierSpare, spareRow, cookieTaken, idElsewhere, renewable, rowToRenew, renewOrGrant, decideLease, rowToExtend, releaseFrom}
 use Rattle.rules.specs.Sessions.{rowOfId, decideEstablish}
 use Rattle.rules.specs.Bytes.{SameAt}
 use Rattle.rules.proofs.Searches.{first-turn, any-turn}
@@ -98,18 +98,18 @@ module _ (Q : ℕ → Type 0) where
     unfolding live
     live-same now r h = rw (expiry-same r h)
 
-    id-same : (r : ℕ) → Q (ownerOf r) → idOf ls r ≡ idOf ms r
+    pub id-same : (r : ℕ) → Q (ownerOf r) → idOf ls r ≡ idOf ms r
     unfolding idOf
     id-same r h = same-number s (idAt r) 4 (λ i l u. in-row r i (omega arith) (omega arith) h)
 
-    with-id-same : (now id r : ℕ) → Q (ownerOf r) → liveWithId ls now id r ≡ liveWithId ms now id r
+    pub with-id-same : (now id r : ℕ) → Q (ownerOf r) → liveWithId ls now id r ≡ liveWithId ms now id r
     unfolding liveWithId
     with-id-same now id r h = rw (live-same now r h, id-same r h)
 
     holder-same : (r : ℕ) → Q (ownerOf r) → holder ls r ≡ holder ms r
     holder-same r h = s .at (holderAt r) (in-row r (holderAt r) (omega arith) (omega arith) h)
 
-    cookie-same : (r : ℕ) → Q (ownerOf r) → cookieOf ls r ≡ cookieOf ms r
+    pub cookie-same : (r : ℕ) → Q (ownerOf r) → cookieOf ls r ≡ cookieOf ms r
     unfolding cookieOf
     cookie-same r h = same-part s (cookieAt r) 24 (λ i l u. in-row r i (omega arith) (omega arith) h)
 
@@ -127,9 +127,13 @@ module _ (Q : ℕ → Type 0) where
       unfolding holdsRow
       holds-row-same = any-own-same _ _ (λ r o. rw (live-same now r o, holder-same r o))
 
+      earlier-spare-same : (r : ℕ) → Q (ownerOf r) → earlierSpare ls now (partnerOf c) r ≡ earlierSpare ms now (partnerOf c) r
+      unfolding earlierSpare
+      earlier-spare-same r q = any-own-same _ _ (λ k o. rw (live-same now k o, expiry-same k o, expiry-same r q))
+
       spare-row-same : spareRow ls now (partnerOf c) ≡ spareRow ms now (partnerOf c)
       unfolding spareRow
-      spare-row-same = first-own-same _ _ (λ r o. ap not (live-same now r o))
+      spare-row-same = first-own-same _ _ (λ r o. rw (live-same now r o, earlier-spare-same r o))
 
       cookie-taken-same : (cookie : List ℕ) → cookieTaken ls now (partnerOf c) cookie ≡ cookieTaken ms now (partnerOf c) cookie
       unfolding cookieTaken
@@ -142,12 +146,6 @@ module _ (Q : ℕ → Type 0) where
       row-of-id-same : (id : ℕ) → rowOfId ls now (partnerOf c) id ≡ rowOfId ms now (partnerOf c) id
       unfolding rowOfId
       row-of-id-same id = first-own-same _ _ (with-id-same now id)
-
-      -- the candidates that are free are all that is read of other partners' rows
-      pub lease-same : (random : List ℕ) → firstFree ls now random ≡ firstFree ms now random
-          → decideLease ls now c random ≡ decideLease ms now c random
-      unfolding decideLease
-      lease-same random e = rw (holds-row-same, spare-row-same, cookie-taken-same (randomCookie random), e)
 
   -- the same ids are live
   pub first-free-same : (ls ms : List ℕ) (now : ℕ) → ((id : ℕ) → idTaken ls now id ≡ idTaken ms now id)
@@ -167,6 +165,27 @@ module _ (Q : ℕ → Type 0) where
           rw (← holder-same ls ms t r h)
           (and-same (eqb (partnerOf (holder ls r)) (ownerOf r)) _ refl
           (λ e. rw (state-same Q P heads cs ds s (holder ls r) (subst Q (sym (eqb-true (partnerOf (holder ls r)) (ownerOf r) e)) h))))
+
+      -- The candidates that are free, and the ids of own rows that are live elsewhere, are all that is read of other partners' rows.
+      module _ (now c : ℕ) (h : Q (partnerOf c)) (elsewhere : (r : ℕ) → Q (ownerOf r) → idElsewhere ls now r ≡ idElsewhere ms now r) where
+        row-to-renew-same : (cookie : List ℕ) → rowToRenew cs ls now (partnerOf c) cookie ≡ rowToRenew ds ms now (partnerOf c) cookie
+        unfolding rowToRenew renewable
+        row-to-renew-same cookie =
+            first-own-same ls ms t now c h _ _
+            (λ r o.
+            rw (cookie-same ls ms t r o, expiry-same ls ms t r o, live-same ls ms t now r o, holder-counts-same r o, elsewhere r o))
+
+        pub lease-same : (random cookie : List ℕ) → firstFree ls now random ≡ firstFree ms now random
+            → decideLease cs ls now c random cookie ≡ decideLease ds ms now c random cookie
+        unfolding decideLease renewOrGrant
+        lease-same random cookie e =
+            rw (
+              holds-row-same ls ms t now c h,
+              spare-row-same ls ms t now c h,
+              cookie-taken-same ls ms t now c h (randomCookie random),
+              row-to-renew-same cookie,
+              e,
+            )
 
       -- a holder that counts is of the row's partner
       counted : (r : ℕ) → Q (ownerOf r) → holderCounts cs ls r ≡ true → Q (partnerOf (holder ls r))

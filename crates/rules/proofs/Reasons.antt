@@ -12,7 +12,7 @@ use lib.Dec.{eqb, lit<}
 use lib.ListN.{length, getD, List·getD-append, List·getD-eq-default}
 use lib.IntN.{ℤ, pos, negsuc, _-ℤ_}
 use borrow.Author.Tests.{eq-eqb, ne-eqb, eqb-true, lt-ltb, le-ltb}
-use Rattle.octets.specs.Octets.{if_then_else_, byteAt, numberAt, bigEndian, put}
+use Rattle.octets.specs.Octets.{if_then_else_, byteAt, part, numberAt, bigEndian, put}
 use Rattle.octets.proofs.Tests.{both-left, both-right}
 use Rattle.octets.proofs.Numbers.{length-bigEndian}
 use Rattle.octets.proofs.Stores.{length-put, part-put, numberAt-put, numberAt-behind}
@@ -22,7 +22,7 @@ use Rattle.allowance.specs.Meter.{verdict}
 use Rattle.allowance.proofs.Numbers.{verdict-nine, nine-verdict, zero-verdict}
 use Rattle.rules.specs.Sizes.{partners, allowancesSize}
 use Rattle.rules.specs.Tables.{Tables, allowanceAt, updatedAt, bucketOf, clock, sized}
-use Rattle.rules.specs.Leases.{LeaseDecision, holdsLease, noSpareRow, cookieInUse, noFreeId, granted, decideLease}
+use Rattle.rules.specs.Leases.{LeaseDecision, holdsLease, noSpareRow, cookieInUse, noFreeId, renewed, granted, decideLease}
 use Rattle.rules.specs.Sessions.{EstablishDecision, refusedWith, establishedWith, decideEstablish}
 use Rattle.rules.specs.Calls.{Call, opening, message, closing, timeOf, callerOf, replyBuffer}
 use Rattle.rules.specs.Plans.{planLease, planEstablish, planMessage, plan}
@@ -34,7 +34,7 @@ use Rattle.rules.specs.Refusals.{Applies}
 use Rattle.rules.specs.Laws.{Accepted}
 use Rattle.rules.specs.Explained.{AsksDecision, LeaseNamed, EstablishNamed, LengthsOnly, credited, Credited, ShortBy, HeadroomExactly}
 use Rattle.rules.proofs.Records.{byte-part}
-use Rattle.rules.proofs.Messages.{by-type}
+use Rattle.rules.proofs.Messages.{by-type, lease-form}
 use Rattle.rules.proofs.Checks.{none-applies, all-pass, at-most, check-verdict, Passed, passed, from-peer}
 use Rattle.rules.proofs.Answers.{answer-is-check, is-done, done-passed}
 use Rattle.rules.proofs.Leases.{first-failing, statuses}
@@ -119,19 +119,22 @@ module _ (tables : Tables) (now c : ℕ) (m random reply relay : List ℕ) where
 
   -- ---- a lease
 
+  abbrev lease-decision : LeaseDecision
+  lease-decision = decideLease cs ls now c random (part m 2 24)
+
   lease-exactly : (d : LeaseDecision)
-      → (explain tables sent .decided ≡ ofLease d) ↔ (Accepted tables sent × ((typeOf m ≡ 2) × (d ≡ decideLease ls now c random)))
+      → (explain tables sent .decided ≡ ofLease d) ↔ (Accepted tables sent × ((typeOf m ≡ 2) × (d ≡ lease-decision)))
   unfolding asked
   lease-exactly =
-      named-exactly ofLease 2 (decideLease ls now c random)
+      named-exactly ofLease 2 lease-decision
       (λ d e. let z : _≡_ {A = ℕ} 0 1 = cc in omega arith)
       (λ t. rw (eq-eqb (typeOf m) 2 t))
       (chosen-lease (eqb (typeOf m) 2) (eqb (typeOf m) 6) _ _)
 
-  plan-lease : Accepted tables sent → typeOf m ≡ 2 → plan tables sent ≡ planLease tables now c (decideLease ls now c random)
+  plan-lease : Accepted tables sent → typeOf m ≡ 2 → plan tables sent ≡ planLease tables now c lease-decision
   unfolding plan planMessage
   plan-lease e t =
-      ⊎-elim (λ r. rw r) (λ r. rw r) (by-type m (from-peer tables now c m random reply relay (done-passed tables sent e)) .two t)
+      ⊎-elim (λ r. rw (r .1, r .0)) (λ r. rw r) (lease-form m (from-peer tables now c m random reply relay (done-passed tables sent e)) t)
 
   -- byte 1 of the reply, by what was decided
   told-lease : (d : LeaseDecision) → (1 < length (planLease tables now c d .reply))
@@ -141,12 +144,13 @@ module _ (tables : Tables) (now c : ℕ) (m random reply relay : List ℕ) where
   told-lease noSpareRow = (lit< tt, ((λ e. absurd (omega arith)), (λ e. absurd (omega arith))))
   told-lease cookieInUse = (lit< tt, ((λ e. absurd (omega arith)), (λ e. absurd (omega arith))))
   told-lease noFreeId = (lit< tt, ((λ e. absurd (omega arith)), (λ e. absurd (omega arith))))
+  told-lease (renewed row) = (omega arith, ((λ e. refl), (λ e. refl)))
   told-lease (granted row id cookie) = (omega arith, ((λ e. refl), (λ e. refl)))
 
   pub lease-named : (d : LeaseDecision) → LeaseNamed tables sent now c m random d
   lease-named d = record {
     exactly = lease-exactly d;
-    first = λ h. rw (lease-exactly d .0 h .1 .1) (first-failing ls now c random);
+    first = λ h. rw (lease-exactly d .0 h .1 .1) (first-failing ls now c random cs (part m 2 24));
     acted = acted;
     told = λ h. rw (reply-byte tables sent (lease-exactly d .0 h .0) 1 (rw (acted h) (told-lease d .0)), acted h) (told-lease d .1);
   }

@@ -8,14 +8,14 @@ use lib.Dec.{eqb, ltb, lit≤}
 use lib.ListN.{length, length-append}
 use Rattle.octets.specs.Octets.{bigEndian}
 use Rattle.octets.proofs.Numbers.{length-bigEndian}
-use Rattle.svsc.specs.Messages.{cookieBytes, encode, digits}
+use Rattle.svsc.specs.Messages.{LeaseGranted, cookieBytes, encode, digits}
 use Rattle.rules.specs.Sizes.{leastBuffer}
 use Rattle.rules.specs.Searches.{endRow}
-use Rattle.rules.specs.Tables.{Tables, partnerOf, hasSession}
-use Rattle.rules.specs.Leases.{LeaseDecision, holdsLease, noSpareRow, cookieInUse, noFreeId, granted, decideLease, rowToExtend}
+use Rattle.rules.specs.Tables.{Tables, partnerOf, hasSession, cookieAt, cookieOf}
+use Rattle.rules.specs.Leases.{LeaseDecision, holdsLease, noSpareRow, cookieInUse, noFreeId, renewed, granted, decideLease, rowToExtend}
 use Rattle.rules.specs.Sessions.{EstablishDecision, refusedWith, establishedWith, decideEstablish}
 use Rattle.rules.specs.Calls.{Call, opening, message, closing, timeOf, connectionOf, replyBuffer, relayBuffer}
-use Rattle.rules.specs.Plans.{Plan, planOpen, planVersionAnswer, planLease, planExtension, planEstablish, planEnd, planData, planClose, plan}
+use Rattle.rules.specs.Plans.{Plan, replyOnly, refuseLease, planOpen, planVersionAnswer, planLease, planExtension, planEstablish, planEnd, planData, planClose, plan}
 use Rattle.rules.specs.Charges.{received}
 use Rattle.rules.specs.Checks.{precheck}
 use Rattle.rules.specs.Step.{step, done}
@@ -44,19 +44,27 @@ module _ (tables : Tables) (now c n : ℕ) where
   answer-fits ok =
       by-test (Fits n) (eqb ok 1) (λ h. small (lit≤ tt) (lit≤ tt)) (λ h. small (lit≤ tt) (lit≤ tt))
 
-  lease-fits : (random : List ℕ) (d : LeaseDecision) → decideLease ls now c random ≡ d → Fits n (planLease tables now c d)
-  unfolding planLease encode
-  lease-fits random holdsLease e = small (lit≤ tt) (lit≤ tt)
-  lease-fits random noSpareRow e = small (lit≤ tt) (lit≤ tt)
-  lease-fits random cookieInUse e = small (lit≤ tt) (lit≤ tt)
-  lease-fits random noFreeId e = small (lit≤ tt) (lit≤ tt)
-  lease-fits random (granted row id cookie) e = record {
-    reply-fits =
-        let own = is-granted ls now c random row id cookie e in
-        let short : length cookie ≤ cookieBytes = rw (own .cookie-is) (length-part-most random 0 cookieBytes) in
-        simp (length-append, length-bigEndian) (omega arith);
-    relay-fits = omega arith;
-  }
+  refused-fits : Fits n (refuseLease tables)
+  unfolding encode
+  refused-fits = small (lit≤ tt) (lit≤ tt)
+
+  -- a lease that is told
+  granted-fits : (id until : ℕ) (cookie ms : List ℕ) → length cookie ≤ cookieBytes
+      → Fits n (replyOnly cs ms (encode (LeaseGranted id cookie until)))
+  unfolding encode
+  granted-fits id until cookie ms short =
+      record { reply-fits = simp (length-append, length-bigEndian) (omega arith); relay-fits = omega arith }
+
+  module _ (random cookie : List ℕ) where
+    lease-fits : (d : LeaseDecision) → decideLease cs ls now c random cookie ≡ d → Fits n (planLease tables now c d)
+    unfolding planLease
+    lease-fits holdsLease e = refused-fits
+    lease-fits noSpareRow e = refused-fits
+    lease-fits cookieInUse e = refused-fits
+    lease-fits noFreeId e = refused-fits
+    lease-fits (renewed row) e = granted-fits _ _ _ _ (unfold cookieOf in length-part-most ls (cookieAt row) cookieBytes)
+    lease-fits (granted row id drawn) e =
+        granted-fits _ _ _ _ (rw (is-granted ls now c random cs cookie row id drawn e .cookie-is) (length-part-most random 0 cookieBytes))
 
   extension-fits : (cookie : List ℕ) → Fits n (planExtension tables now c cookie)
   unfolding planExtension encode bigEndian
@@ -84,7 +92,7 @@ module _ (tables : Tables) (now c n : ℕ) where
   each-fits kind = record {
     open-plan = small (lit≤ tt) (lit≤ tt);
     version-answer = λ t. answer-fits;
-    lease = λ random. lease-fits random (decideLease ls now c random) refl;
+    lease = λ random cookie. lease-fits random cookie (decideLease cs ls now c random cookie) refl;
     extension = extension-fits;
     establish-plan = λ id random long o. establish-fits id random (decideEstablish cs ls now c id);
     end-plan = λ h. small (lit≤ tt) (lit≤ tt);

@@ -17,12 +17,12 @@ use Rattle.svsc.specs.Messages.{cookieBytes}
 use Rattle.rules.specs.Sizes.{rowCount, rowsPerPartner, leaseBytes, leasesSize, idLimit}
 use Rattle.rules.specs.Searches.{firstRow}
 use Rattle.rules.specs.Tables.{partnerOf, leaseAt, idAt, holderAt, cookieAt, expiry, idOf, holder, cookieOf, live, liveWithId, setExpiry, setId, setHolder, setCookie, records, freshLease, fresh}
-use Rattle.rules.specs.Leases.{idTaken, grant, releaseFrom, release}
+use Rattle.rules.specs.Leases.{idTaken, grant, renew, releaseFrom, release}
 use Rattle.rules.specs.Reading.{leaseRecord}
 use Rattle.rules.specs.Effects.{LeaseRow}
 use Rattle.rules.specs.Laws.{DistinctIds}
 use Rattle.rules.proofs.Searches.{none-passes}
-use Rattle.rules.proofs.Records.{Kept, kept-same, kept-trans, kept-put, field-same, number-beside, byte-beside, byte-put}
+use Rattle.rules.proofs.Records.{Kept, kept-same, kept-trans, kept-put, field-same, part-beside, number-beside, byte-beside, byte-put}
 use Rattle.rules.proofs.Allowances.{part-records}
 
 -- ---- the rows that are left
@@ -49,6 +49,10 @@ kept-grant ls r until id cookie c mine h =
     (kept-trans (kept-id (setExpiry ls r until) r mine id)
     (kept-trans (kept-holder (setId (setExpiry ls r until) r id) r mine c)
     (kept-cookie (setHolder (setId (setExpiry ls r until) r id) r c) r mine cookie h)))
+
+pub kept-renew : {Other : ℕ → Type 0} (ls : List ℕ) (r until c : ℕ) → (Other r → ⊥) → Kept leaseBytes Other ls (renew ls r until c)
+unfolding renew
+kept-renew ls r until c mine = kept-trans (kept-expiry ls r mine until) (kept-holder (setExpiry ls r until) r mine c)
 
 -- the rows of one partner, one by one
 pub by-holder : (P : List ℕ → Type 0) (ls : List ℕ) (c r v : ℕ) → P (setHolder ls r v) → P ls
@@ -136,6 +140,25 @@ module _ (ls : List ℕ) (r until id : ℕ) (cookie : List ℕ) (c : ℕ) (size 
         ∙ byte-put with-id (holderAt r) c (omega (arith, size-id));
   }
 
+-- the row that is renewed
+id-renewed : (ls : List ℕ) (r until c : ℕ) → idOf (renew ls r until c) r ≡ idOf ls r
+unfolding renew idOf
+id-renewed ls r until c =
+    number-beside (setExpiry ls r until) (holderAt r) (c ∷ []) (idAt r) 4 (λ l. omega arith)
+    ∙ number-beside ls (leaseAt r) (bigEndian 8 until) (idAt r) 4 (λ l. omega (arith, length-bigEndian 8 until))
+
+pub renewed-row : (ls : List ℕ) (r until c : ℕ) → length ls ≡ leasesSize → r < rowCount → until < 256 ^ 8
+    → LeaseRow (renew ls r until c) r until (idOf ls r) (cookieOf ls r) c
+unfolding renew expiry cookieOf
+renewed-row ls r until c size r< h = record {
+  expiry-is = numberAt-before (setExpiry ls r until) (holderAt r) (c ∷ []) (leaseAt r) 8 (omega arith) ∙ expiry-set ls r until size r< h;
+  id-is = id-renewed ls r until c;
+  cookie-is =
+      part-beside (setExpiry ls r until) (holderAt r) (c ∷ []) (cookieAt r) cookieBytes (λ l. omega arith)
+      ∙ part-beside ls (leaseAt r) (bigEndian 8 until) (cookieAt r) cookieBytes (λ l. omega (arith, length-bigEndian 8 until));
+  holder-is = byte-put (setExpiry ls r until) (holderAt r) c (omega (arith, length-put ls (leaseAt r) (bigEndian 8 until)));
+}
+
 -- ---- live ids are distinct
 
 -- A row that is live later is live now.
@@ -151,10 +174,10 @@ module _ (ls ms : List ℕ) (now : ℕ) (d : DistinctIds ls now) where
   distinct-kept : ((r : ℕ) → live ms now r ≡ true → (live ls now r ≡ true) × (idOf ms r ≡ idOf ls r)) → DistinctIds ms now
   distinct-kept f r s r< s< h k e = d r s r< s< (f r h .0) (f s k .0) (sym (f r h .1) ∙ e ∙ f s k .1)
 
-  -- one row gets an id that no live row has
-  distinct-new : (row id : ℕ) → idOf ms row ≡ id → idTaken ls now id ≡ false
+  -- one row gets, or has, an id that no other live row has
+  distinct-new : (row id : ℕ) → idOf ms row ≡ id → ((r : ℕ) → r < rowCount → r ≢ row → liveWithId ls now id r ≡ false)
       → ((r : ℕ) → r ≢ row → leaseRecord ms r ≡ leaseRecord ls r) → DistinctIds ms now
-  unfolding idTaken liveWithId
+  unfolding liveWithId
   distinct-new row id e free same r s r< s< h k q = go (ℕ-discrete r row) (ℕ-discrete s row)
     where
       before : (r : ℕ) → r ≢ row → live ms now r ≡ true → live ls now r ≡ true
@@ -164,8 +187,7 @@ module _ (ls ms : List ℕ) (now : ℕ) (d : DistinctIds ls now) where
       never : (r : ℕ) → r < rowCount → r ≢ row → live ms now r ≡ true → idOf ms r ≡ id → ⊥
       never r r< n h q =
           let i : idOf ls r ≡ id = sym (id-same ls ms r (same r n)) ∙ q in
-          let none = none-passes (liveWithId ls now id) 0 rowCount free r (omega arith) r< in
-          true≢false (sym (rw (before r n h, eq-eqb (idOf ls r) id i)) ∙ none)
+          true≢false (sym (rw (before r n h, eq-eqb (idOf ls r) id i)) ∙ free r r< n)
 
       go : Dec (r ≡ row) → Dec (s ≡ row) → r ≡ s
       go (yes a) (yes b) = a ∙ sym b
@@ -178,9 +200,17 @@ module _ (ls ms : List ℕ) (now : ℕ) (d : DistinctIds ls now) where
 module _ (ls : List ℕ) (now : ℕ) (d : DistinctIds ls now) where
   pub distinct-grant : (row until id : ℕ) (cookie : List ℕ) (c : ℕ) → length ls ≡ leasesSize → row < rowCount → id < idLimit
       → idTaken ls now id ≡ false → length cookie ≤ cookieBytes → DistinctIds (grant ls row until id cookie c) now
+  unfolding idTaken
   distinct-grant row until id cookie c size row< small free l =
-      distinct-new ls (grant ls row until id cookie c) now d row id (id-granted ls row until id cookie c size row< small) free
+      distinct-new ls (grant ls row until id cookie c) now d row id (id-granted ls row until id cookie c size row< small)
+      (λ r r< n. none-passes (liveWithId ls now id) 0 rowCount free r (omega arith) r<)
       (λ r n. kept-grant {Other = λ r. r ≢ row} ls row until id cookie c (λ n. n refl) l .at r n)
+
+  pub distinct-renew : (row until c : ℕ) → ((r : ℕ) → r < rowCount → r ≢ row → liveWithId ls now (idOf ls row) r ≡ false)
+      → DistinctIds (renew ls row until c) now
+  distinct-renew row until c alone =
+      distinct-new ls (renew ls row until c) now d row (idOf ls row) (id-renewed ls row until c) alone
+      (λ r n. kept-renew {Other = λ r. r ≢ row} ls row until c (λ n. n refl) .at r n)
 
   pub distinct-extend : (row until : ℕ) → live ls now row ≡ true → DistinctIds (setExpiry ls row until) now
   unfolding idOf

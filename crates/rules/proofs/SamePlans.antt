@@ -1,10 +1,10 @@
 -- Two tables that a call finds alike: it gets the same answer and sends the same from both, and what it leaves is alike again.
 -- Assumes nothing.
 use Prim.Native.Nat.{ℕ, _≤_, _<_}
-use mathlib.Core.Path.{_≡_, refl, ap, subst}
+use mathlib.Core.Path.{_≡_, refl, sym, ap, subst}
 use mathlib.Core.Bool.{Bool}
 use mathlib.Core.Option.{Option, none, some}
-use mathlib.Core.List.{List}
+use mathlib.Core.List.{List, []}
 use native.Mathlib.Omega.{arith}
 use lib.Dec.{eqb, ltb}
 use Rattle.octets.specs.Octets.{if_then_else_}
@@ -12,7 +12,7 @@ use Rattle.svsc.specs.Messages.{Message, ProtocolVersion, VersionAnswer, LeaseR
 use Rattle.rules.specs.Sizes.{rowsPerPartner}
 use Rattle.rules.specs.Searches.{firstRow, endRow}
 use Rattle.rules.specs.Tables.{Tables, partnerOf, ownerOf, connectionAt, keysAt, bucketOf, clock, sized, hasSession}
-use Rattle.rules.specs.Leases.{LeaseDecision, holdsLease, noSpareRow, cookieInUse, noFreeId, granted, firstFree, idTaken, decideLease, leaseEnd, grant, rowToExtend, release}
+use Rattle.rules.specs.Leases.{LeaseDecision, holdsLease, noSpareRow, cookieInUse, noFreeId, renewed, granted, firstFree, idTaken, idElsewhere, decideLease, leaseEnd, grant, renew, rowToExtend, release}
 use Rattle.rules.specs.Sessions.{EstablishDecision, refusedWith, establishedWith, decideEstablish, clear, await, join, leave, endSession, establish}
 use Rattle.rules.specs.Calls.{Call, opening, message, closing, timeOf, callerOf}
 use Rattle.rules.specs.Plans.{Plan, doNothing, planOpen, planVersionAnswer, planLease, planExtension, planEstablish, planEnd, planData, planClose, planMessage, plan}
@@ -22,7 +22,8 @@ use Rattle.rules.specs.Step.{done}
 use Rattle.rules.specs.Bytes.{SameAt}
 use Rattle.rules.specs.Reading.{SameSizes, SameTold}
 use Rattle.rules.proofs.Same.{same-put}
-use Rattle.rules.proofs.Reading.{by-both, InLeases, state-same, peer-same, has-session-same, row-to-extend-same, lease-same, first-free-same, establish-same, release-same}
+use Rattle.rules.proofs.Decisions.{is-renewed}
+use Rattle.rules.proofs.Reading.{by-both, InLeases, state-same, peer-same, has-session-same, id-same, cookie-same, row-to-extend-same, lease-same, first-free-same, establish-same, release-same}
 
 -- ---- plans
 
@@ -49,6 +50,7 @@ module _
     (a b : Tables) (now c : ℕ) (mine : Q (partnerOf c))
     (s : SameAt P (a .connections) (b .connections)) (t : SameAt (InLeases Q) (a .leases) (b .leases))
     (until : leaseEnd (a .allowances) now ≡ leaseEnd (b .allowances) now)
+    (elsewhere : (r : ℕ) → Q (ownerOf r) → idElsewhere (a .leases) now r ≡ idElsewhere (b .leases) now r)
   where
     open Tables a using (connections as cs, leases as ls)
     open Tables b using (connections as ds, leases as ms)
@@ -68,18 +70,25 @@ module _
     answer-alike ok =
         by-both Agree (eqb ok 1) (eqb ok 1) refl (λ e. tables-alike (same-put s _ _) t) (λ e. tables-alike (same-put s _ _) t)
 
-    decided-lease : (d : LeaseDecision) → Agree (planLease a now c d) (planLease b now c d)
-    unfolding planLease grant
-    decided-lease holdsLease = tables-alike s t
-    decided-lease noSpareRow = tables-alike s t
-    decided-lease cookieInUse = tables-alike s t
-    decided-lease noFreeId = tables-alike s t
-    decided-lease (granted row id cookie) =
-        rw (← until) (tables-alike s (same-put (same-put (same-put (same-put t _ _) _ _) _ _) _ _))
+    module _ (random cookie : List ℕ) where
+      decided-lease : (d : LeaseDecision) → decideLease cs ls now c random cookie ≡ d → Agree (planLease a now c d) (planLease b now c d)
+      unfolding planLease grant renew
+      decided-lease holdsLease e = tables-alike s t
+      decided-lease noSpareRow e = tables-alike s t
+      decided-lease cookieInUse e = tables-alike s t
+      decided-lease noFreeId e = tables-alike s t
+      decided-lease (renewed row) e =
+          let own = subst Q (sym (is-renewed ls now c random cs cookie row e .own .owner)) mine in
+          rw (← until, ← id-same Q ls ms t row own, ← cookie-same Q ls ms t row own)
+          (tables-alike s (same-put (same-put t _ _) _ _))
+      decided-lease (granted row id drawn) e =
+          rw (← until) (tables-alike s (same-put (same-put (same-put (same-put t _ _) _ _) _ _) _ _))
 
-    lease-alike : (random : List ℕ) → firstFree ls now random ≡ firstFree ms now random
-        → Agree (planLease a now c (decideLease ls now c random)) (planLease b now c (decideLease ms now c random))
-    lease-alike random e = rw (← lease-same Q ls ms t now c mine random e) (decided-lease (decideLease ls now c random))
+      lease-alike : firstFree ls now random ≡ firstFree ms now random
+          → Agree (planLease a now c (decideLease cs ls now c random cookie)) (planLease b now c (decideLease ds ms now c random cookie))
+      lease-alike e =
+          rw (← lease-same Q P heads cs ds ls ms s t now c mine elsewhere random cookie e)
+          (decided-lease (decideLease cs ls now c random cookie) refl)
 
     extension-alike : (cookie : List ℕ) → Agree (planExtension a now c cookie) (planExtension b now c cookie)
     unfolding planExtension
@@ -132,8 +141,8 @@ module _
         → Agree (planMessage a now c random o) (planMessage b now c random o)
     unfolding planMessage
     message-alike random e (some (VersionAnswer ok)) = answer-alike ok
-    message-alike random e (some LeaseRequest) = lease-alike random e
-    message-alike random e (some (LeaseRequestWithCookie cookie)) = lease-alike random e
+    message-alike random e (some LeaseRequest) = lease-alike random [] e
+    message-alike random e (some (LeaseRequestWithCookie cookie)) = lease-alike random cookie e
     message-alike random e (some (ExtensionRequest cookie)) = extension-alike cookie
     message-alike random e (some (EstablishRequest id)) = establish-alike id random
     message-alike random e (some SessionEnd) = end-alike
@@ -194,6 +203,7 @@ pub record Alike (Q P : ℕ → Type 0) (a b : Tables) (call : Call) : Type 0 wh
   pub connections : SameAt P (a .connections) (b .connections)
   pub leases : SameAt (InLeases Q) (a .leases) (b .leases)
   pub live-ids : (id : ℕ) → idTaken (a .leases) (timeOf call) id ≡ idTaken (b .leases) (timeOf call) id
+  pub elsewhere : (r : ℕ) → Q (ownerOf r) → idElsewhere (a .leases) (timeOf call) r ≡ idElsewhere (b .leases) (timeOf call) r
   pub allowance : bucketOf (a .allowances) (callerOf call) ≡ bucketOf (b .allowances) (callerOf call)
   pub clocks : clock (a .allowances) ≡ clock (b .allowances)
 
@@ -231,12 +241,14 @@ module _ {Q P : ℕ → Type 0} {a b : Tables} {call : Call} (x : Alike Q P a b 
 
   plan-of : (k : Call) → Q (callerOf k) → timeOf k ≡ timeOf call → SamePlan Q P (plan a k) (plan b k)
   unfolding plan
-  plan-of (opening now c reply) q t = open-alike Q P (x .heads) a b now c q (x .connections) (x .leases) (end-same now)
+  plan-of (opening now c reply) q t =
+      open-alike Q P (x .heads) a b now c q (x .connections) (x .leases) (end-same now) (rw t (x .elsewhere))
   plan-of (message now c m random reply relay) q t =
-      message-alike Q P (x .heads) a b now c q (x .connections) (x .leases) (end-same now) random
+      message-alike Q P (x .heads) a b now c q (x .connections) (x .leases) (end-same now) (rw t (x .elsewhere)) random
       (first-free-same Q ls ms now (rw t (x .live-ids)) random)
       (decode m)
-  plan-of (closing now c relay) q t = close-alike Q P (x .heads) a b now c q (x .connections) (x .leases) (end-same now)
+  plan-of (closing now c relay) q t =
+      close-alike Q P (x .heads) a b now c q (x .connections) (x .leases) (end-same now) (rw t (x .elsewhere))
 
   pub plan-same : SamePlan Q P (plan a call) (plan b call)
   plan-same = plan-of call (x .mine) refl

@@ -1,9 +1,9 @@
 -- Searches by number: what the first that passes is, and what it is when none does. Assumes nothing.
 use Prim.Native.Nat.{ℕ, zero, suc, _+_, _≤_, _<_}
 use mathlib.Core.Path.{_≡_, refl, sym, ap, _∙_}
-use mathlib.Core.Bool.{Bool, true, false, true≢false}
+use mathlib.Core.Bool.{Bool, true, false, true≢false, false≢true}
 use native.Mathlib.Omega.{arith}
-use native.Mathlib.Decide.{ℕ-discrete}
+use native.Mathlib.Decide.{ℕ-discrete, decLt}
 use Rattle.octets.specs.Octets.{if_then_else_}
 use Rattle.rules.specs.Searches.{firstFrom, anyFrom}
 
@@ -86,3 +86,45 @@ first-none f i zero h = unfold firstFrom in omega arith
 first-none f i (suc n) h =
     let e : suc i + n ≡ i + suc n = omega arith in
     first-turn f i n ∙ rw (h i (omega arith) (omega arith)) (first-none f (suc i) n (λ k l u. h k (omega arith) (omega arith)) ∙ e)
+
+-- The first is known by itself passing and the lower ones failing.
+pub first-is : (f : ℕ → Bool) (i n k : ℕ) → i ≤ k → k < i + n → f k ≡ true → ((j : ℕ) → i ≤ j → j < k → f j ≡ false)
+    → firstFrom f i n ≡ k
+first-is f i n k l u h below = go (decLt (firstFrom f i n) k)
+  where
+    found : firstFrom f i n ≤ k
+    found = first-found f i n k l u h
+
+    go : Dec (firstFrom f i n < k) → firstFrom f i n ≡ k
+    go (yes less) =
+        absurd (true≢false (sym (first-passes f i n (omega arith)) ∙ below (firstFrom f i n) (first-low f i n) less))
+    go (no more) = omega (arith, found)
+
+-- Whether one passes: where one is known, and which one does.
+pub any-passes : (f : ℕ → Bool) (i n k : ℕ) → i ≤ k → k < i + n → f k ≡ true → anyFrom f i n ≡ true
+any-passes f i n k l u h = go (anyFrom f i n) refl
+  where
+    go : (x : Bool) → anyFrom f i n ≡ x → x ≡ true
+    go true e = refl
+    go false e = absurd (true≢false (sym h ∙ none-passes f i n e k l u))
+
+pub any-found : (f : ℕ → Bool) (i n : ℕ) → anyFrom f i n ≡ true → (k : ℕ) × (i ≤ k) × (k < i + n) × (f k ≡ true)
+any-found f i zero h = absurd (false≢true (unfold anyFrom in h))
+any-found f i (suc n) h = go (f i) refl (sym (any-turn f i n) ∙ h) (any-found f (suc i) n)
+  where
+    go : (x : Bool) → f i ≡ x → (if x then true else anyFrom f (suc i) n) ≡ true
+        → (anyFrom f (suc i) n ≡ true → (k : ℕ) × (suc i ≤ k) × (k < suc i + n) × (f k ≡ true))
+        → (k : ℕ) × (i ≤ k) × (k < i + suc n) × (f k ≡ true)
+    go true e h ih = (i, omega arith, omega arith, e)
+    go false e h ih = let q = ih h in (q .0, omega (arith, q .1), omega (arith, q .2), q .3)
+
+-- Two tests of which each has a number that passes where the other has one.
+pub any-alike : (f g : ℕ → Bool) (i n : ℕ) → ((k : ℕ) → i ≤ k → k < i + n → f k ≡ true → anyFrom g i n ≡ true)
+    → ((k : ℕ) → i ≤ k → k < i + n → g k ≡ true → anyFrom f i n ≡ true) → anyFrom f i n ≡ anyFrom g i n
+any-alike f g i n to from = go (anyFrom f i n) (anyFrom g i n) refl refl
+  where
+    go : (x y : Bool) → anyFrom f i n ≡ x → anyFrom g i n ≡ y → x ≡ y
+    go true true a b = refl
+    go false false a b = refl
+    go true false a b = let q = any-found f i n a in absurd (true≢false (sym (to (q .0) (q .1) (q .2) (q .3)) ∙ b))
+    go false true a b = let q = any-found g i n b in absurd (true≢false (sym (from (q .0) (q .1) (q .2) (q .3)) ∙ a))

@@ -13,7 +13,7 @@ use Rattle.svsc.specs.Messages.{keyBytes, encode}
 use Rattle.rules.specs.Sizes.{connectionCount, connectionsSize, randomBytes, nobody}
 use Rattle.rules.specs.Searches.{endRow}
 use Rattle.rules.specs.Tables.{Tables, partnerOf, opened, isOpen, inSession, hasSession}
-use Rattle.rules.specs.Leases.{LeaseDecision, holdsLease, noSpareRow, cookieInUse, noFreeId, granted, decideLease, rowToExtend}
+use Rattle.rules.specs.Leases.{LeaseDecision, holdsLease, noSpareRow, cookieInUse, noFreeId, renewed, granted, decideLease, rowToExtend}
 use Rattle.rules.specs.Sessions.{EstablishDecision, refusedWith, establishedWith, decideEstablish, randomSessionId, callersPeerId, callersKey, holdersPeerId, holdersKey, join, establish, endSession, clear}
 use Rattle.rules.specs.Plans.{Plan, doNothing, planOpen, planVersionAnswer, planLease, planExtension, planEstablish, planEnd, planData, planClose}
 use Rattle.rules.specs.Reading.{connectionRecord}
@@ -130,6 +130,7 @@ module _ (tables : Tables) (now c : ℕ) (size : length (tables .connections) �
   lease-relays noSpareRow = silent _ _ _ _
   lease-relays cookieInUse = silent _ _ _ _
   lease-relays noFreeId = silent _ _ _ _
+  lease-relays (renewed row) = silent _ _ _ _
   lease-relays (granted row id cookie) = silent _ _ _ _
 
   extension-relays : (cookie : List ℕ) → Relays (planExtension tables now c cookie)
@@ -174,7 +175,7 @@ module _ (tables : Tables) (now c : ℕ) (size : length (tables .connections) �
   each-relays n kind = record {
     open-plan = silent _ _ _ _;
     version-answer = λ t. answer-relays;
-    lease = λ random. lease-relays (decideLease ls now c random);
+    lease = λ random cookie. lease-relays (decideLease cs ls now c random cookie);
     extension = extension-relays;
     establish-plan = λ id random long o. establish-relays id random long o (decideEstablish cs ls now c id) refl;
     end-plan = end-relays;

@@ -17,7 +17,7 @@ use Rattle.allowance.specs.Meter as meter
 use Rattle.rules.specs.Sizes.{rowsPerPartner, connectionCount, rowCount, connectionBytes, leaseBytes, nobody}
 use Rattle.rules.specs.Searches.{firstRow, endRow}
 use Rattle.rules.specs.Tables.{Tables, partnerOf, connectionAt, peerAt, keysAt, keysBytes, awaiting, opened, peer, hasSession, setState, setPeer, leaseAt, idAt, holderAt, cookieAt, setExpiry, setId, setHolder, freshConnection, fresh}
-use Rattle.rules.specs.Leases.{LeaseDecision, holdsLease, noSpareRow, cookieInUse, noFreeId, granted, decideLease, leaseEnd, grant, rowToExtend, releaseFrom, release}
+use Rattle.rules.specs.Leases.{LeaseDecision, holdsLease, noSpareRow, cookieInUse, noFreeId, renewed, granted, decideLease, leaseEnd, grant, renew, rowToExtend, releaseFrom, release}
 use Rattle.rules.specs.Sessions.{EstablishDecision, refusedWith, establishedWith, decideEstablish, clear, await, join, leave, endSession, establish}
 use Rattle.rules.specs.Calls.{Call, timeOf, connectionOf}
 use Rattle.rules.specs.Charges.{received}
@@ -100,6 +100,10 @@ module _ (i : ℕ) (low : 13 ≤ i % leaseBytes) (high : i % leaseBytes < 16) wh
       (expiry-zero ls r until z) (λ l u. omega arith) in
       short-put _ (cookieAt r) cookieBytes cookie i h (holder-zero (setId (setExpiry ls r until) r id) r c with-id) (λ l u. omega arith)
 
+  renew-zero : (ls : List ℕ) (r until c : ℕ) → byteAt ls i ≡ 0 → byteAt (renew ls r until c) i ≡ 0
+  unfolding renew
+  renew-zero ls r until c z = holder-zero (setExpiry ls r until) r c (expiry-zero ls r until z)
+
   release-zero : (n : ℕ) (ls : List ℕ) (c r : ℕ) → byteAt ls i ≡ 0 → byteAt (releaseFrom ls c r n) i ≡ 0
   unfolding releaseFrom
   release-zero zero ls c r z = z
@@ -133,19 +137,24 @@ module _ (tables : Tables) (now c : ℕ) (zs : SpareZero tables) where
       → Zero (record { reply = reply; relay = relay; destination = d; disconnect = u; connections = cs; leases = ls })
   stay-zero reply relay d u = record { connections = zs .connections; leases = zs .leases }
 
-  lease-zero : (random : List ℕ) (d : LeaseDecision) → decideLease ls now c random ≡ d → Zero (planLease tables now c d)
-  unfolding planLease
-  lease-zero random holdsLease e = stay-zero _ _ _ _
-  lease-zero random noSpareRow e = stay-zero _ _ _ _
-  lease-zero random cookieInUse e = stay-zero _ _ _ _
-  lease-zero random noFreeId e = stay-zero _ _ _ _
-  lease-zero random (granted row id cookie) e =
-      let g = is-granted ls now c random row id cookie e in
-      record {
-        connections = zs .connections;
-        leases = λ i l u.
-            grant-zero i l u ls row (leaseEnd al now) id cookie c (rw (g .cookie-is) (length-part-most random 0 cookieBytes)) (zs .leases i l u);
-      }
+  module _ (random cookie : List ℕ) where
+    lease-zero : (d : LeaseDecision) → decideLease cs ls now c random cookie ≡ d → Zero (planLease tables now c d)
+    unfolding planLease
+    lease-zero holdsLease e = stay-zero _ _ _ _
+    lease-zero noSpareRow e = stay-zero _ _ _ _
+    lease-zero cookieInUse e = stay-zero _ _ _ _
+    lease-zero noFreeId e = stay-zero _ _ _ _
+    lease-zero (renewed row) e = record {
+      connections = zs .connections;
+      leases = λ i l u. renew-zero i l u ls row (leaseEnd al now) c (zs .leases i l u);
+    }
+    lease-zero (granted row id drawn) e =
+        let g = is-granted ls now c random cs cookie row id drawn e in
+        record {
+          connections = zs .connections;
+          leases = λ i l u.
+              grant-zero i l u ls row (leaseEnd al now) id drawn c (rw (g .cookie-is) (length-part-most random 0 cookieBytes)) (zs .leases i l u);
+        }
 
   extension-zero : (cookie : List ℕ) → Zero (planExtension tables now c cookie)
   unfolding planExtension
@@ -181,7 +190,7 @@ module _ (tables : Tables) (now c : ℕ) (zs : SpareZero tables) where
   each-zero n kind = record {
     open-plan = open-zero;
     version-answer = λ t. answer-zero;
-    lease = λ random. lease-zero random (decideLease ls now c random) refl;
+    lease = λ random cookie. lease-zero random cookie (decideLease cs ls now c random cookie) refl;
     extension = extension-zero;
     establish-plan = λ id random long o. establish-zero id random (decideEstablish cs ls now c id);
     end-plan = λ h. end-plan-zero;

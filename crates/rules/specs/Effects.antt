@@ -12,7 +12,7 @@ use Rattle.svsc.specs.Messages.{Established, EstablishNotification, encode}
 use Rattle.rules.specs.Sizes.{rowCount, connectionBytes, leaseBytes}
 use Rattle.rules.specs.Searches.{endRow}
 use Rattle.rules.specs.Tables.{Tables, partnerOf, ownerOf, connectionAt, inSession, hasSession, holderCounts, sessionIdOf, peerIdOf, peerKeyOf, live, expiry, idOf, holder, cookieOf}
-use Rattle.rules.specs.Leases.{LeaseDecision, holdsLease, noSpareRow, cookieInUse, noFreeId, granted}
+use Rattle.rules.specs.Leases.{LeaseDecision, holdsLease, noSpareRow, cookieInUse, noFreeId, renewed, granted}
 use Rattle.rules.specs.Sessions.{EstablishDecision, refusedWith, establishedWith}
 use Rattle.rules.specs.Calls.{Call, replyBuffer, relayBuffer, Outcome}
 use Rattle.rules.specs.Bytes.{ChangedOnly, InField}
@@ -189,24 +189,43 @@ pub record LeaseConditions (ls : List ℕ) (now c : ℕ) (random : List ℕ) : T
   pub new-cookie : NewCookie ls now c random
   pub free : FreeCandidate ls now random
 
-abbrev pub isGranted : LeaseDecision → Bool
-isGranted holdsLease = false
-isGranted noSpareRow = false
-isGranted cookieInUse = false
-isGranted noFreeId = false
-isGranted (granted row id cookie) = true
+abbrev pub isAccepted : LeaseDecision → Bool
+isAccepted holdsLease = false
+isAccepted noSpareRow = false
+isAccepted cookieInUse = false
+isAccepted noFreeId = false
+isAccepted (renewed row) = true
+isAccepted (granted row id cookie) = true
 
--- "The first free candidate goes into the lowest row that isn't live, with those 24 bytes as cookie"
-pub record FirstFree (ls : List ℕ) (now c : ℕ) (random : List ℕ) (row id : ℕ) (cookie : List ℕ) : Type 0 where
+-- 02, Item 2: "the row with the earliest expiry among those not live, the lowest on a tie", of connection c's partner
+pub record EarliestSpare (ls : List ℕ) (now c row : ℕ) : Type 0 where
   pub own : ownerOf row ≡ partnerOf c
   pub spare : live ls now row ≡ false
-  pub lower-live : (k : ℕ) → ownerOf k ≡ partnerOf c → k < row → live ls now k ≡ true
+  pub earliest : (k : ℕ) → ownerOf k ≡ partnerOf c → live ls now k ≡ false → expiry ls row ≤ expiry ls k
+  pub lowest : (k : ℕ) → ownerOf k ≡ partnerOf c → live ls now k ≡ false → expiry ls k ≡ expiry ls row → row ≤ k
+
+-- "The first free candidate goes into" that row, "with those 24 bytes as cookie"
+pub record FirstFree (ls : List ℕ) (now c : ℕ) (random : List ℕ) (row id : ℕ) (cookie : List ℕ) : Type 0 where
+  pub row-is : EarliestSpare ls now c row
   pub place : ℕ
   pub in-fourteen : place < 14
   pub id-is : id ≡ candidateIn random place
   pub free : FreeId ls now id
   pub earlier-taken : (k : ℕ) → k < place → FreeId ls now (candidateIn random k) → ⊥
   pub cookie-is : cookie ≡ part random 0 24
+
+-- 02, Item 2: a row that "has that cookie, an expiry above 0, no counting holder while live, and an id that no other live row has"
+pub record Renewable (cs ls : List ℕ) (now : ℕ) (cookie : List ℕ) (r : ℕ) : Type 0 where
+  pub cookie-is : cookieOf ls r ≡ cookie
+  pub used : 0 < expiry ls r
+  pub not-held : live ls now r ≡ true → holderCounts cs ls r ≡ false
+  pub id-alone : (k : ℕ) → k < rowCount → k ≢ r → live ls now k ≡ true → idOf ls k ≢ idOf ls r
+
+-- "the lowest such row", "of the partner"
+pub record LowestRenewable (cs ls : List ℕ) (now c : ℕ) (cookie : List ℕ) (row : ℕ) : Type 0 where
+  pub own : ownerOf row ≡ partnerOf c
+  pub renewable : Renewable cs ls now cookie row
+  pub lower-not : (k : ℕ) → ownerOf k ≡ partnerOf c → k < row → Renewable cs ls now cookie k → ⊥
 
 -- what stands in a row
 pub record LeaseRow (ls : List ℕ) (r until id : ℕ) (cookie : List ℕ) (c : ℕ) : Type 0 where
@@ -215,12 +234,20 @@ pub record LeaseRow (ls : List ℕ) (r until id : ℕ) (cookie : List ℕ) (c : 
   pub cookie-is : cookieOf ls r ≡ cookie
   pub holder-is : holder ls r ≡ c
 
--- an accepted lease: "with those 24 bytes as cookie, this holder, expiry reading + 3,600" (`until`, in
+-- a new lease: "with those 24 bytes as cookie, this holder, expiry reading + 3,600" (`until`, in
 -- the law); bytes 13-15 stay
 pub record LeaseTold (tables : Tables) (call : Call) (row until id : ℕ) (cookie : List ℕ) (c : ℕ) (o : Outcome) (told : List ℕ) : Type 0 where
   pub sent : RepliedOnly call o told
   pub written : LeaseRow (o .tables .leases) row until id cookie c
   pub others : ChangedOnly (λ i. InField leaseBytes row 0 13 i ⊎ InField leaseBytes row 16 24 i) (tables .leases) (o .tables .leases)
+  pub connections : o .tables .connections ≡ tables .connections
+
+-- "renewed for this connection with its id and cookie, and no new row is used": its expiry (`until`, in the law) and its holder are all that
+-- changes of the lease table
+pub record LeaseRenewed (tables : Tables) (call : Call) (row until c : ℕ) (o : Outcome) (told : List ℕ) : Type 0 where
+  pub sent : RepliedOnly call o told
+  pub written : LeaseRow (o .tables .leases) row until (idOf (tables .leases) row) (cookieOf (tables .leases) row) c
+  pub others : ChangedOnly (λ i. InField leaseBytes row 0 8 i ⊎ InField leaseBytes row 12 1 i) (tables .leases) (o .tables .leases)
   pub connections : o .tables .connections ≡ tables .connections
 
 -- "extended exactly if a live row of the partner, held by this connection, has that cookie"

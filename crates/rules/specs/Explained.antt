@@ -7,7 +7,7 @@ use mathlib.Core.Option.{some}
 use mathlib.Core.List.{List}
 use lib.IntN.{ℤ, pos, negsuc, _-ℤ_}
 use lib.ListN.{length}
-use Rattle.octets.specs.Octets.{byteAt, numberAt, bigEndian, put}
+use Rattle.octets.specs.Octets.{byteAt, part, numberAt, bigEndian, put}
 use Rattle.svsc.specs.Messages.{typeOf}
 use Rattle.allowance.specs.Bucket.{levelNow}
 use Rattle.rules.specs.Tables.{Tables, lent, partnerOf, allowanceAt, bucketOf}
@@ -42,7 +42,7 @@ AsksDecision (closing now c relay) = ⊥
 -- The plan acted by it (all that fail have one plan), and byte 1 of the reply, "accepted", tells it to the caller.
 pub record LeaseNamed (tables : Tables) (call : Call) (now c : ℕ) (m random : List ℕ) (d : LeaseDecision) : Type 0 where
   pub exactly : (explain tables call .decided ≡ ofLease d)
-      ↔ (Accepted tables call × ((typeOf m ≡ 2) × (d ≡ decideLease (tables .leases) now c random)))
+      ↔ (Accepted tables call × ((typeOf m ≡ 2) × (d ≡ decideLease (tables .connections) (tables .leases) now c random (part m 2 24))))
   pub first : explain tables call .decided ≡ ofLease d → FirstFailing (tables .leases) now c random (conditionOf d)
   pub acted : explain tables call .decided ≡ ofLease d → plan tables call ≡ planLease tables now c d
   pub told : explain tables call .decided ≡ ofLease d → (conditionOf d ≡ 0) ↔ (byteAt (step tables call .reply) 1 ≡ 1)

@@ -1,4 +1,4 @@
--- Lease and Extension (01, "Effects"): what decides, and what is written to the rows; and which rows a close gives back.
+-- Lease and Extension (01, "Effects"; 02, Item 2): what decides, and what is written to the rows; and which rows a close gives back.
 use Prim.Native.Nat.{ℕ, zero, suc, _+_, _*_, _%_}
 use mathlib.Core.Bool.{Bool, not, _&&_}
 use mathlib.Core.List.{List}
@@ -7,7 +7,7 @@ use Rattle.octets.specs.Octets.{if_then_else_, part, numberAt, same}
 use Rattle.svsc.specs.Messages.{cookieBytes}
 use Rattle.rules.specs.Sizes.{rowsPerPartner, rowCount, nobody, leaseTerm, candidateCount, candidateBytes, idLimit}
 use Rattle.rules.specs.Searches.{firstFrom, anyFrom, firstRow, endRow, firstOwn, anyOwn}
-use Rattle.rules.specs.Tables.{partnerOf, holder, cookieOf, live, liveWithId, setExpiry, setId, setHolder, setCookie}
+use Rattle.rules.specs.Tables.{partnerOf, expiry, idOf, holder, cookieOf, live, liveWithId, holderCounts, setExpiry, setId, setHolder, setCookie}
 
 -- "expiry reading + 3,600": when a lease that is given or extended now ends. The first argument, the allowance table, is not read.
 unfoldable pub leaseEnd : List ℕ → ℕ → ℕ
@@ -35,35 +35,64 @@ firstFree ls now random = firstFrom (λ k. not (idTaken ls now (candidate random
 unfoldable pub holdsRow : List ℕ → ℕ → ℕ → Bool
 holdsRow ls now c = anyOwn (partnerOf c) (λ r. live ls now r && eqb (holder ls r) c)
 
--- "the lowest row that isn't live", or the end of the partner's rows
+-- a row of the partner that isn't live expires earlier than row r
+unfoldable pub earlierSpare : List ℕ → ℕ → ℕ → ℕ → Bool
+earlierSpare ls now p r = anyOwn p (λ k. not (live ls now k) && ltb (expiry ls k) (expiry ls r))
+
+-- 02, Item 2: "the row with the earliest expiry among those not live, the lowest on a tie", or the end of the partner's rows
 unfoldable pub spareRow : List ℕ → ℕ → ℕ → ℕ
-spareRow ls now p = firstOwn p (λ r. not (live ls now r))
+spareRow ls now p = firstOwn p (λ r. not (live ls now r) && not (earlierSpare ls now p r))
 
 -- "the cookie of a live row of the partner"
 unfoldable pub cookieTaken : List ℕ → ℕ → ℕ → List ℕ → Bool
 cookieTaken ls now p cookie = anyOwn p (λ r. live ls now r && same (cookieOf ls r) cookie)
 
--- which of the four conditions fails first, in 01's order; or that all hold, with the row, the id and the cookie
+-- another of all 128 rows is live and has the id of row r
+unfoldable pub idElsewhere : List ℕ → ℕ → ℕ → Bool
+idElsewhere ls now r = anyFrom (λ k. not (eqb k r) && liveWithId ls now (idOf ls r) k) 0 rowCount
+
+-- 02, Item 2: a row that "has that cookie, an expiry above 0, no counting holder while live, and an id that no other live row has"
+unfoldable pub renewable : List ℕ → List ℕ → ℕ → List ℕ → ℕ → Bool
+renewable cs ls now cookie r =
+    same (cookieOf ls r) cookie && (ltb 0 (expiry ls r) && (not (live ls now r && holderCounts cs ls r) && not (idElsewhere ls now r)))
+
+-- "the lowest such row", or the end of the partner's rows
+unfoldable pub rowToRenew : List ℕ → List ℕ → ℕ → ℕ → List ℕ → ℕ
+rowToRenew cs ls now p cookie = firstOwn p (renewable cs ls now cookie)
+
+-- which of the four conditions fails first, in 01's order; or that all hold, and which row is renewed or what a new lease gets
 pub data LeaseDecision : Type 0 where
   holdsLease : LeaseDecision
   noSpareRow : LeaseDecision
   cookieInUse : LeaseDecision
   noFreeId : LeaseDecision
+  renewed : (row : ℕ) → LeaseDecision
   granted : (row id : ℕ) (cookie : List ℕ) → LeaseDecision
 
+-- "If accepted, and a row of the partner has that cookie, .., the lowest such row is renewed .., and no new row is used."
+unfoldable pub renewOrGrant : List ℕ → List ℕ → ℕ → ℕ → List ℕ → List ℕ → LeaseDecision
+renewOrGrant cs ls now c random cookie =
+    let row = rowToRenew cs ls now (partnerOf c) cookie in
+    if ltb row (endRow (partnerOf c)) then renewed row
+    else granted (spareRow ls now (partnerOf c)) (candidate random (firstFree ls now random)) (randomCookie random)
+
 -- "accepted exactly if the connection holds no live row, the partner has a row that isn't live, the draw's bytes 0-23 aren't the cookie of
--- a live row of the partner, and one of the candidates is free"
-unfoldable pub decideLease : List ℕ → ℕ → ℕ → List ℕ → LeaseDecision
-decideLease ls now c random =
+-- a live row of the partner, and one of the candidates is free". The cookie is the request's: no bytes if it has none, and no row has those.
+unfoldable pub decideLease : List ℕ → List ℕ → ℕ → ℕ → List ℕ → List ℕ → LeaseDecision
+decideLease cs ls now c random cookie =
     if holdsRow ls now c then holdsLease
     else if not (ltb (spareRow ls now (partnerOf c)) (endRow (partnerOf c))) then noSpareRow
     else if cookieTaken ls now (partnerOf c) (randomCookie random) then cookieInUse
     else if not (ltb (firstFree ls now random) candidateCount) then noFreeId
-    else granted (spareRow ls now (partnerOf c)) (candidate random (firstFree ls now random)) (randomCookie random)
+    else renewOrGrant cs ls now c random cookie
 
--- "The first free candidate goes into the lowest row that isn't live, with those 24 bytes as cookie, this holder, expiry reading + 3,600."
+-- "The first free candidate goes into" that row, "with those 24 bytes as cookie, this holder, expiry reading + 3,600."
 unfoldable pub grant : List ℕ → ℕ → ℕ → ℕ → List ℕ → ℕ → List ℕ
 grant ls row until id cookie c = setCookie (setHolder (setId (setExpiry ls row until) row id) row c) row cookie
+
+-- "renewed for this connection with its id and cookie"
+unfoldable pub renew : List ℕ → ℕ → ℕ → ℕ → List ℕ
+renew ls row until c = setHolder (setExpiry ls row until) row c
 
 -- ---- Extension
 

@@ -8,8 +8,8 @@ use Rattle.octets.specs.Octets.{if_then_else_}
 use Rattle.svsc.specs.Messages.{Message, ProtocolVersion, VersionAnswer, LeaseRequest, LeaseRequestWithCookie, LeaseRefused, LeaseGranted, ExtensionRequest, ExtensionRefused, ExtensionGranted, EstablishRequest, EstablishRefused, Established, EstablishNotification, SessionEnd, SessionEndNotification, DataSend, DataReceive, Keepalive, encode, decode}
 use Rattle.rules.specs.Sizes.{nobody}
 use Rattle.rules.specs.Searches.{endRow}
-use Rattle.rules.specs.Tables.{Tables, partnerOf, opened, peer, hasSession, setState, setExpiry}
-use Rattle.rules.specs.Leases.{LeaseDecision, holdsLease, noSpareRow, cookieInUse, noFreeId, granted, decideLease, leaseEnd, grant, rowToExtend, release}
+use Rattle.rules.specs.Tables.{Tables, partnerOf, opened, peer, hasSession, idOf, cookieOf, setState, setExpiry}
+use Rattle.rules.specs.Leases.{LeaseDecision, holdsLease, noSpareRow, cookieInUse, noFreeId, renewed, granted, decideLease, leaseEnd, grant, renew, rowToExtend, release}
 use Rattle.rules.specs.Sessions.{EstablishDecision, refusedWith, establishedWith, decideEstablish, randomSessionId, callersPeerId, callersKey, holdersPeerId, holdersKey, establish, endSession, await, clear}
 use Rattle.rules.specs.Calls.{Call, opening, message, closing}
 
@@ -59,6 +59,12 @@ planLease tables now c holdsLease = refuseLease tables
 planLease tables now c noSpareRow = refuseLease tables
 planLease tables now c cookieInUse = refuseLease tables
 planLease tables now c noFreeId = refuseLease tables
+planLease tables now c (renewed row) =
+    let until = leaseEnd (tables .allowances) now in
+    replyOnly
+    (tables .connections)
+    (renew (tables .leases) row until c)
+    (encode (LeaseGranted (idOf (tables .leases) row) (cookieOf (tables .leases) row) until))
 planLease tables now c (granted row id cookie) =
     let until = leaseEnd (tables .allowances) now in
     replyOnly (tables .connections) (grant (tables .leases) row until id cookie c) (encode (LeaseGranted id cookie until))
@@ -110,11 +116,13 @@ planClose tables c =
       leases = release (tables .leases) c;
     }
 
--- A message. "A cookie in the request is ignored"; "Type 13: nothing sent". What peers do not send, check 6 refuses.
+-- A message. 02, Item 2: "a request's cookie is considered"; 01: "Type 13: nothing sent". What peers do not send, check 6 refuses.
 unfoldable pub planMessage : Tables → ℕ → ℕ → List ℕ → Option Message → Plan
 planMessage tables now c random (some (VersionAnswer ok)) = planVersionAnswer tables c ok
-planMessage tables now c random (some LeaseRequest) = planLease tables now c (decideLease (tables .leases) now c random)
-planMessage tables now c random (some (LeaseRequestWithCookie cookie)) = planLease tables now c (decideLease (tables .leases) now c random)
+planMessage tables now c random (some LeaseRequest) =
+    planLease tables now c (decideLease (tables .connections) (tables .leases) now c random [])
+planMessage tables now c random (some (LeaseRequestWithCookie cookie)) =
+    planLease tables now c (decideLease (tables .connections) (tables .leases) now c random cookie)
 planMessage tables now c random (some (ExtensionRequest cookie)) = planExtension tables now c cookie
 planMessage tables now c random (some (EstablishRequest id)) =
     planEstablish tables c id random (decideEstablish (tables .connections) (tables .leases) now c id)

@@ -1,12 +1,14 @@
 -- What a call reads, as a statement about two tables. 01: "Neighbours share two things only: ids already live, and the clock."
 use Prim.Native.Nat.{ℕ, _%_, _<_}
 use mathlib.Core.Path.{_≡_}
+use mathlib.Core.Bool.{Bool, not, _&&_}
 use mathlib.Core.List.{List}
+use lib.Dec.{eqb}
 use lib.ListN.{length}
 use Rattle.octets.specs.Octets.{part}
-use Rattle.rules.specs.Sizes.{connectionBytes, leaseBytes, allowanceBytes}
-use Rattle.rules.specs.Tables.{Tables, partnerOf, ownerOf, connectionAt, leaseAt, allowanceAt, clock}
-use Rattle.rules.specs.Leases.{idTaken}
+use Rattle.rules.specs.Sizes.{rowCount, connectionBytes, leaseBytes, allowanceBytes}
+use Rattle.rules.specs.Searches.{anyFrom}
+use Rattle.rules.specs.Tables.{Tables, partnerOf, ownerOf, connectionAt, leaseAt, allowanceAt, liveWithId, clock}
 use Rattle.rules.specs.Calls.{Outcome}
 use Rattle.rules.specs.Bytes.{SameAt}
 
@@ -30,11 +32,15 @@ pub record SameSizes (a b : Tables) : Type 0 where
   pub leases : length (a .leases) ≡ length (b .leases)
   pub allowances : length (a .allowances) ≡ length (b .allowances)
 
+-- a live row of another partner than p has the id
+unfoldable pub liveUnderOthers : List ℕ → ℕ → ℕ → ℕ → Bool
+liveUnderOthers ls now p id = anyFrom (λ r. not (eqb (ownerOf r) p) && liveWithId ls now id r) 0 rowCount
+
 -- two tables that a call of partner p, at a time, can't tell apart: its own records, "ids already live, and the clock"
 pub record SameToRead (p now : ℕ) (a b : Tables) : Type 0 where
   pub sizes : SameSizes a b
   pub own : SameRecords (λ q. q ≡ p) a b
-  pub live-ids : (id : ℕ) → idTaken (a .leases) now id ≡ idTaken (b .leases) now id
+  pub live-ids : (id : ℕ) → liveUnderOthers (a .leases) now p id ≡ liveUnderOthers (b .leases) now p id
   pub clocks : clock (a .allowances) ≡ clock (b .allowances)
 
 -- the same answer, and the same bytes in both buffers

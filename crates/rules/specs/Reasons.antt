@@ -5,10 +5,10 @@ use mathlib.Core.Bool.{_&&_}
 use mathlib.Core.Option.{Option, none, some}
 use lib.Dec.{eqb}
 use lib.IntN.{ℤ, pos, _-ℤ_}
-use Rattle.octets.specs.Octets.{if_then_else_, numberAt}
+use Rattle.octets.specs.Octets.{if_then_else_, part, numberAt}
 use Rattle.svsc.specs.Messages.{typeOf}
 use Rattle.rules.specs.Tables.{Tables}
-use Rattle.rules.specs.Leases.{LeaseDecision, holdsLease, noSpareRow, cookieInUse, noFreeId, granted, decideLease}
+use Rattle.rules.specs.Leases.{LeaseDecision, holdsLease, noSpareRow, cookieInUse, noFreeId, renewed, granted, decideLease}
 use Rattle.rules.specs.Sessions.{EstablishDecision, refusedWith, establishedWith, decideEstablish}
 use Rattle.rules.specs.Calls.{Call, opening, message, closing}
 use Rattle.rules.specs.Charges.{charged, price, callerLevel}
@@ -20,6 +20,7 @@ conditionOf holdsLease = 1
 conditionOf noSpareRow = 2
 conditionOf cookieInUse = 3
 conditionOf noFreeId = 4
+conditionOf (renewed row) = 0
 conditionOf (granted row id cookie) = 0
 
 -- "or which status"
@@ -33,11 +34,12 @@ pub data Decided : Type 0 where
   ofLease : LeaseDecision → Decided
   ofEstablish : EstablishDecision → Decided
 
--- what a call asks to be decided: a message of type 2 a lease, one of type 6 a session with the holder of the id that it names
+-- what a call asks to be decided: a message of type 2 a lease, with the cookie behind its first two bytes if it has one, and one of type 6 a
+-- session with the holder of the id that it names
 unfoldable pub asked : Tables → Call → Decided
 asked tables (opening now c reply) = undecided
 asked tables (message now c m random reply relay) =
-    if eqb (typeOf m) 2 then ofLease (decideLease (tables .leases) now c random)
+    if eqb (typeOf m) 2 then ofLease (decideLease (tables .connections) (tables .leases) now c random (part m 2 24))
     else if eqb (typeOf m) 6 then ofEstablish (decideEstablish (tables .connections) (tables .leases) now c (numberAt m 1 4))
     else undecided
 asked tables (closing now c relay) = undecided
