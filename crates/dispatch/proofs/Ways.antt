@@ -9,15 +9,18 @@ use denote.Enum.Declared.{tagOf}
 use native.Mathlib.Omega.{arith}
 use lib.Pow.{areBytes}
 use lib.ListN.{length, drop}
-use Rattle.svsc.specs.Messages.{Message, DataSend, decode, encode, wellFormed}
+use Rattle.octets.specs.Octets.{part}
+use Rattle.svsc.specs.Messages.{Message, LeaseRequest, DataSend, decode, encode, wellFormed}
 use Rattle.svsc_decoded.specs.Reading.{Answer as ReadAnswer, answer, meaning}
 use Rattle.svsc_decoded.specs.declared.Decoded.{Decoded}
 use Rattle.svsc_decoded.specs.declared.Decoded.the-variants as case
 use Rattle.svsc_decoded.proofs.Decoded.{the-type}
 use Rattle.svsc_decoded.proofs.Cases.{in-arm, in-rest}
 use Rattle.svsc.proofs.ReadThenWritten.{decode-sound}
-use Rattle.rules.specs.Tables.{Tables}
-use Rattle.rules.specs.Plans.{Plan, planMessage, doNothing}
+use Rattle.rules.specs.Tables.{Tables, lent}
+use Rattle.rules.specs.Leases.{decideLease}
+use Rattle.rules.specs.Plans.{Plan, planLease, planMessage, doNothing}
+use Rattle.rules.proofs.Messages.{no-cookie}
 use Rattle.answers.specs.Applied.{Handled, applied}
 use Rattle.sessions.specs.Asked.{Sendable}
 
@@ -56,6 +59,14 @@ sendable m relay d b h t l =
     sym (ap (λ (a : ReadAnswer). a .message) (ap (λ (x : Decoded). meaning x m) (sym t) ∙ h)) in
     let sound = decode-sound m (DataSend (drop 1 m)) b read in
     record { some = subst (λ (k : List ℕ). 0 < length k) (sound .bytes) (omega arith); short = sound .ranges; room = l }
+
+-- a request without a cookie is decided as one whose cookie has no bytes
+pub without-cookie : (cs ls al : List ℕ) (time c : ℕ) (m random reply relay : List ℕ) (d : Decoded) → meaning d m ≡ answer (decode m) → (x : Handled) → d ≡ case.LeaseRequest
+    → x ≡ applied (planLease (lent cs ls al) time c (decideLease cs ls time c random (part m 2 24))) reply relay
+    → x ≡ applied (planLease (lent cs ls al) time c (decideLease cs ls time c random [])) reply relay
+without-cookie cs ls al time c m random reply relay d h x t made =
+    let read : decode m ≡ some LeaseRequest = sym (ap (λ (a : ReadAnswer). a .message) (ap (λ (x : Decoded). meaning x m) (sym t) ∙ h)) in
+    made ∙ rw (no-cookie m read)
 
 -- the ways out
 module _ (tables : Tables) (time c : ℕ) (random m reply relay : List ℕ) (d : Decoded) (h : meaning d m ≡ answer (decode m)) (x : Handled) where

@@ -27,6 +27,19 @@ module _ (f : ℕ → Bool) {i : ℕ} (end : ℕ) where
   unfolding firstFrom
   first-none l h = let e : end - i ≡ 0 = omega arith in rw e (omega arith)
 
+  -- the same of whether one passes
+  pub any-hit : {t : Bool} → i < end → t ≡ f i → t ≡ true → anyFrom f i (end - i) ≡ true
+  unfolding anyFrom
+  any-hit h test e = let more : end - i ≡ suc (end - (i + 1)) = omega arith in rw (more, anyFrom, ← test, e)
+
+  pub any-miss : {t : Bool} → i < end → t ≡ f i → t ≡ false → anyFrom f i (end - i) ≡ anyFrom f (i + 1) (end - (i + 1))
+  unfolding anyFrom
+  any-miss h test e = let more : end - i ≡ suc (end - (i + 1)) = omega arith in rw (more, anyFrom, ← test, e, add-one i)
+
+  pub any-none : end ≤ i → anyFrom f i (end - i) ≡ false
+  unfolding anyFrom
+  any-none h = let e : end - i ≡ 0 = omega arith in rw e
+
 -- one turn of both searches, by the test of i
 any-turn : (f : ℕ → Bool) (i n : ℕ) (t : Bool) → anyFrom f (suc i) n ≡ ltb (firstFrom f (suc i) n) (suc i + n)
     → elim t [ true ↦ true | false ↦ anyFrom f (suc i) n ] ≡ ltb (elim t [ true ↦ i | false ↦ firstFrom f (suc i) n ]) (i + suc n)

@@ -5,13 +5,12 @@ ghost use Prim.Native.Nat.{_<_};
 ghost use lib.ListN.{length};
 ghost use Rattle.rules.specs.Sizes.{partners, connectionCount, rowCount, leasesSize};
 ghost use Rattle.rules.specs.Searches.{firstOwn, anyOwn};
-ghost use Rattle.rules.specs.Leases.{holdsRow, spareRow, cookieTaken, rowToExtend};
+ghost use Rattle.rules.specs.Leases.{holdsRow, cookieTaken, rowToExtend};
 ghost use Rattle.rules.specs.Sessions.{rowOfId};
 ghost use Rattle.lease_search.specs.Searches.{passes};
 
 // What a search over a partner's rows looks for. The cookie is lent beside it, since an enum holds no slice.
 enum Sought {
-    Spare, // a row that isn't live
     HeldBy(u8), // a live row that this connection holds
     WithId(u32), // a live row that has this id
     WithCookie, // a live row that has the cookie
@@ -25,7 +24,6 @@ fn passes(leases: &[u8], time: u64, sought: Sought, cookie: &[u8], row: usize) -
 {
     let live = lease_table::is_live(leases, time, row);
     match sought {
-        Sought::Spare => !live,
         Sought::HeldBy(c) => live & (lease_table::holder(leases, row) == c),
         Sought::WithId(id) => live & (lease_table::id_of(leases, row) == id),
         Sought::WithCookie => live
@@ -70,14 +68,6 @@ pub fn holds_row(leases: &[u8], time: u64, c: u8) -> bool
         Sought::HeldBy(c),
         b"",
     )
-}
-
-// The partner's lowest row that isn't live, or the end of its rows.
-pub fn spare_row(leases: &[u8], time: u64, partner: usize) -> usize
-    requires { ⌜ (length (now leases) ≡ leasesSize) × (partner < partners) ⌝ }
-    ensures { λ r. ⌜ r ≡ spareRow (now (leases .entry)) time partner ⌝ }
-{
-    first_own(leases, time, partner, Sought::Spare, b"")
 }
 
 // Whether a live row of the partner has the cookie.

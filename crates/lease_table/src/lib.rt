@@ -27,7 +27,7 @@ pub fn end_row(partner: usize) -> usize
 
 // ---- the fields of a row
 
-fn expiry(leases: &[u8], row: usize) -> u64
+pub fn expiry(leases: &[u8], row: usize) -> u64
     requires { ⌜ (length (now leases) ≡ leasesSize) × (row < rowCount) ⌝ }
     ensures { λ r. ⌜ r ≡ expiry (now (leases .entry)) row ⌝ }
 {

@@ -1,4 +1,4 @@
--- What is written to rows: the four stores of a grant; and the release of a partner's rows, its start, one turn and its end.
+-- What is written to rows: the stores of a new lease and of a renewal; and the release of a partner's rows, its start, one turn and its end.
 -- Assumes nothing.
 use Prim.Native.Nat.{ℕ, suc, _+_, _-_, _≤_, _<_}
 use mathlib.Core.Path.{_≡_, ap, _∙_}
@@ -7,7 +7,7 @@ use native.Mathlib.Numerals.{add-one}
 use native.Mathlib.Omega.{arith}
 use Rattle.rules.specs.Searches.{firstRow, endRow}
 use Rattle.rules.specs.Tables.{partnerOf, setExpiry, setId, setHolder, setCookie}
-use Rattle.rules.specs.Leases.{grant, release, releaseFrom}
+use Rattle.rules.specs.Leases.{grant, renew, release, releaseFrom}
 use Rattle.lease_table.proofs.Rows.{own-count}
 use Rattle.lease_writes.specs.Rows.{releaseRow}
 
@@ -15,6 +15,11 @@ pub row-written : (ls : List ℕ) {b₁ b₂ b₃ b₄ : List ℕ} (row until id
     → b₄ ≡ setCookie b₃ row cookie → b₄ ≡ grant ls row until id cookie c
 unfolding grant
 row-written ls row until id cookie c e₁ e₂ e₃ e₄ = rw (e₄, e₃, e₂, e₁)
+
+pub row-renewed : (ls : List ℕ) {b₁ b₂ : List ℕ} (row until c : ℕ) → b₁ ≡ setExpiry ls row until → b₂ ≡ setHolder b₁ row c
+    → b₂ ≡ renew ls row until c
+unfolding renew
+row-renewed ls row until c e₁ e₂ = rw (e₂, e₁)
 
 pub release-start : (ls : List ℕ) (c : ℕ) {p end : ℕ} → p ≡ partnerOf c → end ≡ endRow p
     → release ls c ≡ releaseFrom ls c (firstRow p) (end - firstRow p)

@@ -1,10 +1,10 @@
-// What is written to the rows of leases: by a grant, an extension and a close. Numbers in range are required: the relay's checks come
+// What is written to the rows of leases: by a new lease, a renewal, an extension and a close. Numbers in range are required: the relay's checks come
 // before anything here is called, and no answer would serve where they fail.
 ghost use mathlib.Core.Path.{_≡_};
 ghost use Prim.Native.Nat.{_<_};
 ghost use Rattle.rules.specs.Sizes.{connectionCount, rowCount};
 ghost use Rattle.rules.specs.Tables.{setExpiry};
-ghost use Rattle.rules.specs.Leases.{grant, release};
+ghost use Rattle.rules.specs.Leases.{grant, renew, release};
 ghost use Rattle.lease_writes.specs.Rows.{releaseRow};
 
 // Writes a new lease to a row; bytes 13 to 15 stay.
@@ -17,6 +17,16 @@ pub fn grant(leases: &mut [u8], row: usize, until: u64, id: u32, cookie: &[u8], 
     octet_stores::write32(leases, at + rules::ID_AT, id);
     octet_stores::write8(leases, at + rules::HOLDER_AT, c);
     octet_stores::copy(leases, at + rules::COOKIE_AT, cookie);
+}
+
+// Writes who holds a renewed lease, and when it ends; its id, its cookie and bytes 13 to 15 stay.
+pub fn renew(leases: &mut [u8], row: usize, until: u64, c: u8)
+    requires { ⌜ row < rowCount ⌝ }
+    ensures { λ _. ⌜ now (leases .exit) ≡ renew (now (leases .entry)) row until c ⌝ }
+{
+    let at = rules::LEASE_BYTES * row;
+    octet_stores::write64(leases, at, until);
+    octet_stores::write8(leases, at + rules::HOLDER_AT, c);
 }
 
 // Writes when a lease ends.

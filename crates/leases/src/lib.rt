@@ -4,9 +4,11 @@
 ghost use mathlib.Core.Path.{_≡_};
 ghost use Prim.Native.Nat.{_<_};
 ghost use lib.ListN.{length};
-ghost use Rattle.rules.specs.Sizes.{connectionCount, leasesSize, timeLimit, candidateCount, randomBytes};
+ghost use mathlib.Core.List.{List};
+ghost use Prim.Native.Nat.{ℕ};
+ghost use Rattle.rules.specs.Sizes.{partners, connectionCount, leasesSize, timeLimit, candidateCount, randomBytes};
 ghost use Rattle.rules.specs.Leases.{leaseEnd, candidate, decideLease};
-ghost use Rattle.leases.specs.Leases.{freeId, foundId, meaning};
+ghost use Rattle.leases.specs.Leases.{freeId, foundId, meaning, renewOr};
 
 // The first free candidate's id, or that none is free.
 pub enum FreeId {
@@ -14,12 +16,13 @@ pub enum FreeId {
     Nothing,
 }
 
-// What a lease request comes to: the first of 01's four conditions that fails, or the row and the id that are granted.
+// What a lease request comes to: the first of 01's four conditions that fails, the row that is renewed, or the row and the id of a new lease.
 pub enum LeaseDecision {
     HoldsLease,
     NoSpareRow,
     CookieInUse,
     NoFreeId,
+    Renewed { row: usize },
     Granted { row: usize, id: u32 },
 }
 
@@ -48,17 +51,46 @@ pub fn free_id(leases: &[u8], time: u64, random: &[u8]) -> FreeId
     FreeId::Nothing
 }
 
-// The first of 01's conditions that fails, each looked at only where the earlier ones hold; or what is granted. The cookie of a grant is
-// the first bytes of the random ones.
-pub fn decide_lease(leases: &[u8], time: u64, c: u8, random: &[u8]) -> LeaseDecision
+// The lowest row that the cookie renews, or else the row and the id of a new lease.
+fn renew_or_grant(
+    connections: &[u8],
+    leases: &[u8],
+    time: u64,
+    partner: usize,
+    cookie: &[u8],
+    row: usize,
+    id: u32,
+) -> LeaseDecision
+    requires { ⌜ (length (now leases) ≡ leasesSize) × (partner < partners) ⌝ }
+    ensures { λ r. ⌜ ((random : List ℕ) → meaning r random
+        ≡ renewOr (now (connections .entry)) (now (leases .entry)) time partner (now (cookie .entry)) row id random) ⌝ }
+{
+    let old = renewals::row_to_renew(connections, leases, time, partner, cookie);
+    if old < lease_table::end_row(partner) {
+        return LeaseDecision::Renewed { row: old };
+    }
+    LeaseDecision::Granted { row, id }
+}
+
+// The first of 01's conditions that fails, each looked at only where the earlier ones hold; or what is renewed or granted. The cookie is the
+// request's, no bytes if it has none; that of a new lease is the first bytes of the random ones.
+pub fn decide_lease(
+    connections: &[u8],
+    leases: &[u8],
+    time: u64,
+    c: u8,
+    random: &[u8],
+    cookie: &[u8],
+) -> LeaseDecision
     requires { ⌜ (length (now leases) ≡ leasesSize) × (c < connectionCount) × (length (now random) ≡ randomBytes) ⌝ }
-    ensures { λ r. ⌜ meaning r (now (random .entry)) ≡ decideLease (now (leases .entry)) time c (now (random .entry)) ⌝ }
+    ensures { λ r. ⌜ meaning r (now (random .entry))
+        ≡ decideLease (now (connections .entry)) (now (leases .entry)) time c (now (random .entry)) (now (cookie .entry)) ⌝ }
 {
     if lease_search::holds_row(leases, time, c) {
         return LeaseDecision::HoldsLease;
     }
     let partner = lease_table::partner_of(c);
-    let row = lease_search::spare_row(leases, time, partner);
+    let row = spare_rows::spare_row(leases, time, partner);
     if lease_table::end_row(partner) <= row {
         return LeaseDecision::NoSpareRow;
     }
@@ -66,7 +98,7 @@ pub fn decide_lease(leases: &[u8], time: u64, c: u8, random: &[u8]) -> LeaseDeci
         return LeaseDecision::CookieInUse;
     }
     match free_id(leases, time, random) {
-        FreeId::At(id) => LeaseDecision::Granted { row, id },
+        FreeId::At(id) => renew_or_grant(connections, leases, time, partner, cookie, row, id),
         FreeId::Nothing => LeaseDecision::NoFreeId,
     }
 }

@@ -1,27 +1,28 @@
 -- The ways out of the functions that give and extend leases, over plain values. Assumes nothing.
 use Rattle.leases.specs.declared.LeaseDecision.{LeaseDecision as Decided}
 use Prim.Native.Nat.{ℕ, _^_, _≤_, _<_}
-use mathlib.Core.Path.{_≡_, refl}
+use mathlib.Core.Path.{_≡_, refl, _∙_}
 use mathlib.Core.Bool.{true}
 use mathlib.Core.List.{List, [], _∷_}
 use types.Run.{OneOf, miss}
 use denote.Enum.Declared.{tagOf}
 use native.Mathlib.Omega.{arith}
-use lib.ListN.{length, length-append}
+use lib.ListN.{length, getD, length-append}
 use borrow.Author.Tests.{lt-ltb, le-ltb}
 use Rattle.octets.specs.Octets.{part, put, isBytes}
 use Rattle.octets.proofs.Numbers.{length-bigEndian}
 use Rattle.svsc.specs.Messages.{LeaseRefused, LeaseGranted, ExtensionRefused, ExtensionGranted, encode, wellFormed}
-use Rattle.rules.specs.Sizes.{timeLimit}
-use Rattle.rules.specs.Tables.{lent, partnerOf, setExpiry}
+use Rattle.rules.specs.Sizes.{rowCount, leasesSize, timeLimit}
+use Rattle.rules.specs.Tables.{lent, partnerOf, idOf, cookieAt, cookieOf, setExpiry}
 use Rattle.rules.specs.Searches.{endRow}
-use Rattle.rules.specs.Leases.{granted, randomCookie, leaseEnd, grant, rowToExtend}
+use Rattle.rules.specs.Leases.{renewed, granted, randomCookie, leaseEnd, decideLease, grant, renew, rowToExtend}
 use Rattle.rules.specs.Plans.{planLease, planExtension, refuseLease}
 use Rattle.leases.proofs.LeaseDecision.{the-type}
 use Rattle.leases.specs.Leases.{meaning}
 use Rattle.leases.specs.declared.LeaseDecision.the-variants as decided
 use Rattle.answers.specs.declared.Answer.{Answer}
-use Rattle.answers.specs.Applied.{handled, applied, coded, replied}
+use Rattle.answers.proofs.Writes.{part-bytes}
+use Rattle.answers.specs.Applied.{Handled, handled, applied, coded, replied}
 
 -- ---- ranges and lengths
 
@@ -32,6 +33,10 @@ until-below al time h = omega arith
 pub lease-ranges : (id : ℕ) (cookie : List ℕ) (until : ℕ) → id < 2 ^ 32 → isBytes 24 cookie ≡ true → until < 2 ^ 64 → wellFormed (LeaseGranted id cookie until) ≡ true
 unfolding wellFormed
 lease-ranges id cookie until hi hc hu = rw (lt-ltb id (2 ^ 32) hi, lt-ltb until (2 ^ 64) hu, hc)
+
+pub row-cookie : (ls : List ℕ) (row : ℕ) → ((i : ℕ) → getD ls i 0 < 256) → length ls ≡ leasesSize → row < rowCount → isBytes 24 (cookieOf ls row) ≡ true
+unfolding cookieOf
+row-cookie ls row bytes size h = part-bytes ls (cookieAt row) 24 bytes (omega arith)
 
 pub lease-length : (id : ℕ) (cookie : List ℕ) (until : ℕ) → length cookie ≡ 24 → length (encode (LeaseGranted id cookie until)) ≡ 38
 unfolding encode
@@ -54,6 +59,13 @@ module _ (cs ls al reply relay : List ℕ) (time c : ℕ) where
       → handled r cs ls′ reply′ relay ≡ applied (planLease (lent cs ls al) time c (granted row id (randomCookie random))) reply relay
   unfolding applied planLease put
   lease-given row id random until n cookie ls′ reply′ r hu hc hl hn hr a = rw (a, hr, hn, hl, hc, hu)
+
+  pub lease-renewed : (row until id n : ℕ) (cookie ls′ reply′ : List ℕ) (r : Answer) → until ≡ leaseEnd al time → id ≡ idOf ls row → cookie ≡ cookieOf ls row
+      → ls′ ≡ renew ls row until c → n ≡ length (encode (LeaseGranted id cookie until)) → reply′ ≡ put reply 0 (encode (LeaseGranted id cookie until))
+      → r ≡ coded (replied n)
+      → handled r cs ls′ reply′ relay ≡ applied (planLease (lent cs ls al) time c (renewed row)) reply relay
+  unfolding applied planLease put
+  lease-renewed row until id n cookie ls′ reply′ r hu hi hc hl hn hr a = rw (a, hr, hn, hl, hc, hi, hu)
 
   pub lease-refused : (n : ℕ) (reply′ : List ℕ) (r : Answer) → n ≡ length (encode LeaseRefused) → reply′ ≡ put reply 0 (encode LeaseRefused)
       → r ≡ coded (replied n) → handled r cs ls reply′ relay ≡ applied (refuseLease (lent cs ls al)) reply relay
@@ -78,11 +90,22 @@ module _ (cs ls al reply relay : List ℕ) (time c : ℕ) where
 abbrev pub refusals : List ℕ
 refusals = 0 ∷ 1 ∷ 2 ∷ 3 ∷ []
 
-pub refusing : (cs ls al : List ℕ) (time c : ℕ) (d : Decided) (random : List ℕ) → OneOf refusals (tagOf the-type d)
+refusing : (cs ls al : List ℕ) (time c : ℕ) (random : List ℕ) (d : Decided) → OneOf refusals (tagOf the-type d)
     → refuseLease (lent cs ls al) ≡ planLease (lent cs ls al) time c (meaning d random)
 unfolding planLease
-refusing cs ls al time c decided.HoldsLease random h = refl
-refusing cs ls al time c decided.NoSpareRow random h = refl
-refusing cs ls al time c decided.CookieInUse random h = refl
-refusing cs ls al time c decided.NoFreeId random h = refl
-refusing cs ls al time c (decided.Granted row id) random h = absurd (miss refusals 4 tt h)
+refusing cs ls al time c random decided.HoldsLease h = refl
+refusing cs ls al time c random decided.NoSpareRow h = refl
+refusing cs ls al time c random decided.CookieInUse h = refl
+refusing cs ls al time c random decided.NoFreeId h = refl
+refusing cs ls al time c random (decided.Renewed row) h = absurd (miss refusals 4 tt h)
+refusing cs ls al time c random (decided.Granted row id) h = absurd (miss refusals 5 tt h)
+
+-- the outcome of what was decided on: x with the values that the match names, k the cookie behind the message's first two bytes
+module _ (cs ls al reply relay : List ℕ) (time c : ℕ) (random cookie : List ℕ) (d : Decided) {k : List ℕ} (is : meaning d random ≡ decideLease cs ls time c random k) (given : k ≡ cookie) where
+  pub as-decided : {x : Decided} {o : Handled} → d ≡ x → o ≡ applied (planLease (lent cs ls al) time c (meaning x random)) reply relay
+      → o ≡ applied (planLease (lent cs ls al) time c (decideLease cs ls time c random cookie)) reply relay
+  as-decided e h = h ∙ rw (← e, is, given)
+
+  pub as-refused : {o : Handled} → OneOf refusals (tagOf the-type d) → o ≡ applied (refuseLease (lent cs ls al)) reply relay
+      → o ≡ applied (planLease (lent cs ls al) time c (decideLease cs ls time c random cookie)) reply relay
+  as-refused t h = as-decided refl (h ∙ rw (refusing cs ls al time c random d t))

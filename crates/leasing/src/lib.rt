@@ -7,7 +7,7 @@ ghost use lib.ListN.{length};
 ghost use Rattle.octets.specs.Octets.{part};
 ghost use Rattle.rules.specs.Tables.{lent};
 ghost use Rattle.rules.specs.Sizes.{rowCount, randomBytes, leastBuffer};
-ghost use Rattle.rules.specs.Leases.{granted, randomCookie, decideLease};
+ghost use Rattle.rules.specs.Leases.{renewed, granted, randomCookie, decideLease};
 ghost use Rattle.rules.specs.Plans.{planLease, planExtension, refuseLease};
 ghost use Rattle.answers.specs.Applied.{handled, applied};
 ghost use Rattle.leasing.specs.Asked.{Leasable};
@@ -37,6 +37,27 @@ fn grant(
     answers::replied(sent.length as u32)
 }
 
+// Writes the row that is renewed, and answers with the id and the cookie that it has.
+fn renew(
+    leases: &mut [u8],
+    allowances: &[u8],
+    time: u64,
+    c: u8,
+    reply: &mut [u8],
+    row: usize,
+) -> Answer
+    requires { ⌜ (Leasable (now leases) time c (now reply)) × (row < rowCount) ⌝ }
+    ensures { λ r. ⌜ ((cs relay : List ℕ) → handled r cs (now (leases .exit)) (now (reply .exit)) relay
+        ≡ applied (planLease (lent cs (now (leases .entry)) (now (allowances .entry))) time c (renewed row)) (now (reply .entry)) relay) ⌝ }
+{
+    let until = leases::lease_end(allowances, time);
+    let id = lease_table::id_of(leases, row);
+    let cookie = lease_table::cookie_of(leases, row);
+    let sent = svsc_lease_writers::svsc_write_lease_granted(reply, id, cookie, until);
+    lease_writes::renew(leases, row, until, c);
+    answers::replied(sent.length as u32)
+}
+
 fn refuse(reply: &mut [u8]) -> Answer
     requires { ⌜ leastBuffer ≤ length (now reply) ⌝ }
     ensures { λ r. ⌜ ((cs ls al relay : List ℕ) → handled r cs ls (now (reply .exit)) relay ≡ applied (refuseLease (lent cs ls al))
@@ -46,22 +67,27 @@ fn refuse(reply: &mut [u8]) -> Answer
     answers::replied(sent.length as u32)
 }
 
-// Type 2: decided first, then written.
+// Type 2: decided first, then written. The cookie is behind the first two bytes; a message of two bytes has none.
 pub fn lease(
+    connections: &[u8],
     leases: &mut [u8],
     allowances: &[u8],
     time: u64,
     c: u8,
+    m: &[u8],
     random: &[u8],
     reply: &mut [u8],
 ) -> Answer
     requires { ⌜ (Leasable (now leases) time c (now reply)) × (length (now random) ≡ randomBytes) ⌝ }
-    ensures { λ r. ⌜ ((cs relay : List ℕ) → handled r cs (now (leases .exit)) (now (reply .exit)) relay
-        ≡ applied (planLease (lent cs (now (leases .entry)) (now (allowances .entry))) time c
-        (decideLease (now (leases .entry)) time c (now (random .entry)))) (now (reply .entry)) relay) ⌝ }
+    ensures { λ r. ⌜ ((relay : List ℕ) → handled r (now (connections .entry)) (now (leases .exit)) (now (reply .exit)) relay
+        ≡ applied (planLease (lent (now (connections .entry)) (now (leases .entry)) (now (allowances .entry))) time c
+        (decideLease (now (connections .entry)) (now (leases .entry)) time c (now (random .entry)) (part (now (m .entry)) 2 24)))
+        (now (reply .entry)) relay) ⌝ }
 {
-    let decision = leases::decide_lease(leases, time, c, random);
+    let cookie = octets::part(m, 2, svsc::COOKIE);
+    let decision = leases::decide_lease(connections, leases, time, c, random, cookie);
     match decision {
+        LeaseDecision::Renewed { row } => renew(leases, allowances, time, c, reply, row),
         LeaseDecision::Granted { row, id } => grant(
             leases,
             allowances,

@@ -9,7 +9,7 @@ use lib.Dec.{eqb, ltb}
 use lib.IntN.{pos, _-ℤ_}
 use lib.ListN.{length, replicate, length-replicate}
 use borrow.Author.Tests.{eq-eqb, ne-eqb, not-true}
-use Rattle.octets.specs.Octets.{if_then_else_, byteAt, numberAt}
+use Rattle.octets.specs.Octets.{if_then_else_, byteAt, part, numberAt}
 use Rattle.octets.proofs.Tests.{both-left, both-right, and-false}
 use Rattle.svsc.specs.Messages.{typeOf, fromPeer, longestMessage}
 use Rattle.allowance.specs.Meter.{verdict}
@@ -35,7 +35,7 @@ module _ (cs ls al : List ℕ) (time c : ℕ) (m random reply relay : List ℕ) 
   abbrev sent : Call
   sent = message time c m random reply relay
 
-  pub lease-way : k ≡ 2 → (n : ℕ) → n ≡ conditionOf (decideLease ls time c random)
+  pub lease-way : k ≡ 2 → (n : ℕ) → n ≡ conditionOf (decideLease cs ls time c random (part m 2 24))
       → record { request = 1; condition = n } ≡ named (asked (lent cs ls al) sent)
   unfolding asked
   lease-way h n e = rw (kind-is m peer k hk, eq-eqb k 2 h, e)

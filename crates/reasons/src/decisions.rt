@@ -23,6 +23,7 @@ fn condition_of(decision: LeaseDecision) -> u32
         LeaseDecision::NoSpareRow => 2,
         LeaseDecision::CookieInUse => 3,
         LeaseDecision::NoFreeId => 4,
+        LeaseDecision::Renewed { row } => 0,
         LeaseDecision::Granted { row, id } => 0,
     }
 }
@@ -56,7 +57,8 @@ pub fn decided(
     }
     let kind = octets::byte(m, 0);
     if kind == 2 {
-        let decision = leases::decide_lease(leases, time, c, random);
+        let cookie = octets::part(m, 2, svsc::COOKIE);
+        let decision = leases::decide_lease(connections, leases, time, c, random, cookie);
         return Named {
             request: crate::LEASE,
             condition: condition_of(decision),

@@ -20,7 +20,7 @@ use Rattle.rules.specs.Reasons.{conditionOf}
 use Rattle.rules.specs.Effects.{HoldsNone, HasSpare, NewCookie, FreeCandidate, LeaseConditions, isAccepted, EarliestSpare, FirstFree, Renewable, LowestRenewable, LowestOwn, Extendable, Statuses}
 use Rattle.rules.specs.Explained.{FirstFailing}
 use Rattle.rules.proofs.Exactly.{eq-exactly, lt-exactly, not-exactly, and-exactly}
-use Rattle.rules.proofs.Searches.{first-passes, first-below, none-passes, all-fail, first-found, any-found}
+use Rattle.rules.proofs.Searches.{first-passes, first-below, none-passes, all-fail, first-found, first-none, any-passes, any-found}
 use Rattle.rules.proofs.Decisions.{is-renewed, is-granted, own-row, own-found, own-none, own-passes, own-is}
 
 -- ---- tests, and what they say
@@ -96,6 +96,25 @@ module _ (ls : List ℕ) (now p : ℕ) where
           let k = any-found (earlier-test r) (firstRow p) rowsPerPartner e in
           let before = ltb-true (expiry ls (k .0)) (expiry ls r) (both-right (not (live ls now (k .0))) _ (k .3)) in
           ih (k .0) (omega (arith, before)) (omega (arith, k .1, k .2)) (not-true _ (both-left _ _ (k .3)))
+
+  -- The row by what it is: not live, no row that isn't live is earlier, and a lower one is later.
+  pub spare-is : (r : ℕ) → ownerOf r ≡ p → live ls now r ≡ false
+      → ((k : ℕ) → ownerOf k ≡ p → live ls now k ≡ false → expiry ls r ≤ expiry ls k)
+      → ((k : ℕ) → ownerOf k ≡ p → live ls now k ≡ false → k < r → expiry ls r < expiry ls k)
+      → spareRow ls now p ≡ r
+  unfolding spareRow earlierSpare
+  spare-is r o l least lower =
+      own-is p spare-test r o (earliest-passes r l least) (λ k q below. go k q below (live ls now k) refl)
+    where
+      go : (k : ℕ) → ownerOf k ≡ p → k < r → (t : Bool) → live ls now k ≡ t → not t && not (earlierSpare ls now p k) ≡ false
+      go k q below true e = refl
+      go k q below false e =
+          let earlier : earlier-test k r ≡ true = rw (l, lt-ltb (expiry ls r) (expiry ls k) (lower k q e below)) in
+          rw (any-passes (earlier-test k) (firstRow p) rowsPerPartner r (omega arith) (omega arith) earlier)
+
+  pub spare-none : ((k : ℕ) → ownerOf k ≡ p → live ls now k ≡ true) → spareRow ls now p ≡ endRow p
+  unfolding spareRow
+  spare-none all = first-none spare-test (firstRow p) rowsPerPartner (λ k l u. rw (all k (omega arith)))
 
   pub earliest-spare : (c : ℕ) → p ≡ partnerOf c → spareRow ls now p < endRow p → EarliestSpare ls now c (spareRow ls now p)
   unfolding spareRow

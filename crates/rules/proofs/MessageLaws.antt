@@ -27,7 +27,7 @@ use Rattle.rules.specs.Effects.{RepliedOnly, RelayedOnly, SentNothing, V
 use Rattle.rules.specs.Laws.{Accepted}
 use Rattle.rules.proofs.Checks.{Passed, passed, from-peer, random-length, has-session, is-permitted, open-permits}
 use Rattle.rules.proofs.Records.{byte-put}
-use Rattle.rules.proofs.Messages.{decode-type, end-read, data-read, no-bytes, lease-form}
+use Rattle.rules.proofs.Messages.{decode-type, end-read, data-read, lease-read, no-bytes, no-cookie}
 use Rattle.rules.proofs.Answers.{is-done, done-passed}
 use Rattle.rules.proofs.Connections.{cleared-record, fresh-record, paired, end-clears-first, end-clears-second, all-keys}
 use Rattle.rules.proofs.Rows.{expiry-set, granted-row, renewed-row}
@@ -193,9 +193,9 @@ module _
     unfolding planMessage
     lease-outcome t =
         ⊎-elim
-        (λ d. outcome-of LeaseRequest (d .1) ∙ rw (d .0))
+        (λ d. outcome-of LeaseRequest d ∙ rw (no-cookie m d))
         (λ d. outcome-of (LeaseRequestWithCookie (part m 2 24)) d)
-        (lease-form m (from-peer tables now c m random reply relay h) t)
+        (lease-read m (from-peer tables now c m random reply relay h) t)
 
     until< : now + 3600 < 256 ^ 8
     until< = omega (arith, ok .in-limit)

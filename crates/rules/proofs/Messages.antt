@@ -147,23 +147,20 @@ module _ (m : List ℕ) where
   unfolding readings
   data-read h t = row-read 11 (leb (length m) longestMessage) (DataSend (drop 1 m)) h t refl
 
-  -- a message of type 2: of the form of two bytes, or with a cookie
+  -- a message of type 2
   either-form : (a b : Bool) (x : Message) (y : List ℕ → Message) (k : List ℕ) → isSome (when a x orElse when b (y k)) ≡ true
-      → ((a ≡ true) × ((when a x orElse when b (y k)) ≡ some x)) ⊎ ((when a x orElse when b (y k)) ≡ some (y k))
-  either-form true b x y k h = inl (refl, refl)
+      → ((when a x orElse when b (y k)) ≡ some x) ⊎ ((when a x orElse when b (y k)) ≡ some (y k))
+  either-form true b x y k h = inl refl
   either-form false true x y k h = inr refl
   either-form false false x y k h = absurd (false≢true h)
 
-  pub no-bytes : length m ≡ 2 → part m 2 24 ≡ []
-  no-bytes e = part-end m 2 24 (omega arith) ∙ sym (none-past m 2 (omega arith))
-
-  pub lease-form : fromPeer m ≡ true → typeOf m ≡ 2
-      → ((part m 2 24 ≡ []) × (decode m ≡ some LeaseRequest)) ⊎ (decode m ≡ some (LeaseRequestWithCookie (part m 2 24)))
+  pub lease-read : fromPeer m ≡ true → typeOf m ≡ 2
+      → (decode m ≡ some LeaseRequest) ⊎ (decode m ≡ some (LeaseRequestWithCookie (part m 2 24)))
   unfolding fromPeer decode readings
-  lease-form h t =
+  lease-read h t =
       let e = ap (λ (i : ℕ). getD (readings m) i none) t in
       let known = ap isSome (sym e) ∙ both-right (getD sentByPeers (typeOf m) false) (isSome (decode m)) h in
-      ⊎-elim (λ s. inl (no-bytes (eqb-true (length m) 2 (both-left _ _ (s .0))), e ∙ s .1)) (λ s. inr (e ∙ s))
+      ⊎-elim (λ s. inl (e ∙ s)) (λ s. inr (e ∙ s))
       (either-form
       (eqb (length m) 2 && eqb (byteAt m 1) 0)
       (eqb (length m) 26 && eqb (byteAt m 1) 1)
@@ -172,9 +169,20 @@ module _ (m : List ℕ) where
       (part m 2 24)
       known)
 
-  lease-read : fromPeer m ≡ true → typeOf m ≡ 2
-      → (decode m ≡ some LeaseRequest) ⊎ (decode m ≡ some (LeaseRequestWithCookie (part m 2 24)))
-  lease-read h t = ⊎-elim (λ s. inl (s .1)) (λ s. inr s) (lease-form h t)
+  -- one without a cookie has two bytes, and nothing stands where the cookie would
+  pub no-bytes : length m ≡ 2 → part m 2 24 ≡ []
+  no-bytes e = part-end m 2 24 (omega arith) ∙ sym (none-past m 2 (omega arith))
+
+  pub no-cookie : decode m ≡ some LeaseRequest → part m 2 24 ≡ []
+  unfolding decode readings encode
+  no-cookie d =
+      let e = ap (λ (i : ℕ). getD (readings m) i none) (decode-type LeaseRequest d) in
+      no-bytes (eqb-true (length m) 2 (both-left _ _ (short (eqb (length m) 2 && eqb (byteAt m 1) 0) (eqb (length m) 26 && eqb (byteAt m 1) 1) (part m 2 24) (sym e ∙ d))))
+    where
+      short : (a b : Bool) (k : List ℕ) → (when a LeaseRequest orElse when b (LeaseRequestWithCookie k)) ≡ some LeaseRequest → a ≡ true
+      short true b k e = refl
+      short false true k e = absurd (let z : _≡_ {A = ℕ} 0 1 = cc e in omega arith)
+      short false false k e = absurd (let z : _≡_ {A = ℕ} 0 1 = cc e in omega arith)
 
   -- the version answer
   answer-read : fromPeer m ≡ true → typeOf m ≡ 1 → (decode m ≡ some (VersionAnswer 0)) ⊎ (decode m ≡ some (VersionAnswer 1))

@@ -4,7 +4,7 @@ use Rattle.octets.proofs.Tests.{bytes-known}
 use Rattle.rules.specs.Tables.{lent}
 use Rattle.rules.specs.Plans.{planMessage}
 use Rattle.answers.proofs.Ways.{nothing-done}
-use Rattle.dispatch.proofs.Ways.{sendable, asked, nothing-asked}
+use Rattle.dispatch.proofs.Ways.{sendable, without-cookie, asked, nothing-asked}
 use borrow.Author.Needs.{needs}
 use Rattle.dispatch.proofs.handle.Statement.{statement}
 use Rattle.dispatch.proofs.handle.Tie as tie
@@ -23,7 +23,7 @@ enum-told c = search needs
 
 lease-requires : tie.Need-lease-requires
 lease-requires c κs =
-    let p = c .before .before .before .before .before .before .before .before .before .before .before .before .pre in
+    let p = c .before .before .before .before .before .before .before .before .before .before .before .before .before .pre in
     (record { size = p .size; known = p .known; timely = p .timely; room = p .reply-room }, p .random-size)
 
 enum-told-2 : tie.Need-enum-told-2
@@ -31,7 +31,7 @@ enum-told-2 c = search needs
 
 lease-requires-2 : tie.Need-lease-requires-2
 lease-requires-2 c κs =
-    let p = c .before .before .before .before .before .before .before .before .before .before .before .before .pre in
+    let p = c .before .before .before .before .before .before .before .before .before .before .before .before .before .pre in
     (record { size = p .size; known = p .known; timely = p .timely; room = p .reply-room }, p .random-size)
 
 enum-told-3 : tie.Need-enum-told-3
@@ -86,31 +86,37 @@ same-length-2 c = search needs
 same-length-3 : tie.Need-same-length-3
 same-length-3 c = search needs
 
-returns-2 : tie.Need-returns-2
-unfolding planMessage
-returns-2 c =
-    let a = c .before .before .before .before .before .before .before .before .before .before .before .before .before .before .before .before .before .args in
-    asked (lent (a .connections .now) (a .leases .now) (a .allowances .now)) (a .time) (a .c) (a .random .now) (a .m .now) (a .reply .now) (a .relay .now) (c .before .before .before .before .before .before .before .before .before .read .result) (c .before .before .before .before .before .before .before .before .before .read .ensures) _ _ (c .before .before .before .before .before .before .before .enum-told .given .1)
-    (c .before .before .before .before .lease .ensures (a .connections .now) (a .relay .now))
-
 same-length-4 : tie.Need-same-length-4
 same-length-4 c = search needs
 
+returns-2 : tie.Need-returns-2
+unfolding planMessage
+returns-2 c =
+    let a = c .before .before .before .before .before .before .before .before .before .before .before .before .before .before .before .before .before .before .args in
+    asked (lent (a .connections .now) (a .leases .now) (a .allowances .now)) (a .time) (a .c) (a .random .now) (a .m .now) (a .reply .now) (a .relay .now) (c .before .before .before .before .before .before .before .before .before .before .read .result) (c .before .before .before .before .before .before .before .before .before .before .read .ensures) _ _ (c .before .before .before .before .before .before .before .before .enum-told .given .1)
+    (without-cookie _ _ _ _ _ (a .m .now) _ _ _ _ (c .before .before .before .before .before .before .before .before .before .before .read .ensures) _ (c .before .before .before .before .before .before .before .before .enum-told .given .1) (c .before .before .before .before .lease .ensures (a .relay .now)))
+
 same-length-5 : tie.Need-same-length-5
 same-length-5 c = search needs
-
-returns-3 : tie.Need-returns-3
-unfolding planMessage
-returns-3 c =
-    let a = c .before .before .before .before .before .before .before .before .before .before .before .before .before .before .before .before .before .args in
-    asked (lent (a .connections .now) (a .leases .now) (a .allowances .now)) (a .time) (a .c) (a .random .now) (a .m .now) (a .reply .now) (a .relay .now) (c .before .before .before .before .before .before .before .before .before .read .result) (c .before .before .before .before .before .before .before .before .before .read .ensures) _ _ (c .before .before .before .before .before .before .before .enum-told2 .given .1)
-    (c .before .before .before .before .lease2 .ensures (a .connections .now) (a .relay .now))
 
 same-length-6 : tie.Need-same-length-6
 same-length-6 c = search needs
 
 same-length-7 : tie.Need-same-length-7
 same-length-7 c = search needs
+
+returns-3 : tie.Need-returns-3
+unfolding planMessage
+returns-3 c =
+    let a = c .before .before .before .before .before .before .before .before .before .before .before .before .before .before .before .before .before .before .args in
+    asked (lent (a .connections .now) (a .leases .now) (a .allowances .now)) (a .time) (a .c) (a .random .now) (a .m .now) (a .reply .now) (a .relay .now) (c .before .before .before .before .before .before .before .before .before .before .read .result) (c .before .before .before .before .before .before .before .before .before .before .read .ensures) _ _ (c .before .before .before .before .before .before .before .before .enum-told2 .given .1)
+    (c .before .before .before .before .lease2 .ensures (a .relay .now))
+
+same-length-8 : tie.Need-same-length-8
+same-length-8 c = search needs
+
+same-length-9 : tie.Need-same-length-9
+same-length-9 c = search needs
 
 returns-4 : tie.Need-returns-4
 unfolding planMessage
@@ -119,17 +125,17 @@ returns-4 c =
     asked (lent (a .connections .now) (a .leases .now) (a .allowances .now)) (a .time) (a .c) (a .random .now) (a .m .now) (a .reply .now) (a .relay .now) (c .before .before .before .before .before .before .before .before .before .read .result) (c .before .before .before .before .before .before .before .before .before .read .ensures) _ _ (c .before .before .before .before .before .before .before .enum-told3 .given .1)
     (c .before .before .before .before .extend .ensures (a .connections .now) (a .relay .now))
 
-same-length-8 : tie.Need-same-length-8
-same-length-8 c = search needs
-
-same-length-9 : tie.Need-same-length-9
-same-length-9 c = search needs
-
 same-length-10 : tie.Need-same-length-10
 same-length-10 c = search needs
 
 same-length-11 : tie.Need-same-length-11
 same-length-11 c = search needs
+
+same-length-12 : tie.Need-same-length-12
+same-length-12 c = search needs
+
+same-length-13 : tie.Need-same-length-13
+same-length-13 c = search needs
 
 returns-5 : tie.Need-returns-5
 unfolding planMessage
@@ -138,11 +144,11 @@ returns-5 c =
     asked (lent (a .connections .now) (a .leases .now) (a .allowances .now)) (a .time) (a .c) (a .random .now) (a .m .now) (a .reply .now) (a .relay .now) (c .before .before .before .before .before .before .before .before .before .before .before .before .before .before .read .result) (c .before .before .before .before .before .before .before .before .before .before .before .before .before .before .read .ensures) _ _ (c .before .before .before .before .before .before .before .before .before .before .before .before .d2 .given .1)
     (c .before .before .before .before .before .before .establish .ensures (a .allowances .now))
 
-same-length-12 : tie.Need-same-length-12
-same-length-12 c = search needs
+same-length-14 : tie.Need-same-length-14
+same-length-14 c = search needs
 
-same-length-13 : tie.Need-same-length-13
-same-length-13 c = search needs
+same-length-15 : tie.Need-same-length-15
+same-length-15 c = search needs
 
 returns-6 : tie.Need-returns-6
 unfolding planMessage
@@ -151,11 +157,11 @@ returns-6 c =
     asked (lent (a .connections .now) (a .leases .now) (a .allowances .now)) (a .time) (a .c) (a .random .now) (a .m .now) (a .reply .now) (a .relay .now) (c .before .before .before .before .before .before .before .before .before .read .result) (c .before .before .before .before .before .before .before .before .before .read .ensures) _ _ (c .before .before .before .before .before .before .before .enum-told4 .given .1)
     (c .before .before .before .before .end .ensures (a .leases .now) (a .allowances .now) (a .reply .now))
 
-same-length-14 : tie.Need-same-length-14
-same-length-14 c = search needs
+same-length-16 : tie.Need-same-length-16
+same-length-16 c = search needs
 
-same-length-15 : tie.Need-same-length-15
-same-length-15 c = search needs
+same-length-17 : tie.Need-same-length-17
+same-length-17 c = search needs
 
 returns-7 : tie.Need-returns-7
 unfolding planMessage
@@ -194,22 +200,24 @@ handle-spec =
     returns
     same-length-2
     same-length-3
-    returns-2
     same-length-4
+    returns-2
     same-length-5
-    returns-3
     same-length-6
     same-length-7
-    returns-4
+    returns-3
     same-length-8
     same-length-9
+    returns-4
     same-length-10
     same-length-11
-    returns-5
     same-length-12
     same-length-13
-    returns-6
+    returns-5
     same-length-14
     same-length-15
+    returns-6
+    same-length-16
+    same-length-17
     returns-7
     returns-8)

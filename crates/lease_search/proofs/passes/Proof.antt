@@ -8,9 +8,6 @@ use Rattle.lease_search.proofs.passes.Tie as tie
 is-live-requires : tie.Need-is-live-requires
 is-live-requires c κs = search needs
 
-enum-told : tie.Need-enum-told
-enum-told c = search needs
-
 enum-known-sought : tie.Need-enum-known-sought
 enum-known-sought c = search needs
 
@@ -23,8 +20,8 @@ enum-known-sought-2 c = search needs
 id-of-requires : tie.Need-id-of-requires
 id-of-requires c κs = search needs
 
-enum-told-2 : tie.Need-enum-told-2
-enum-told-2 c = search needs
+enum-told : tie.Need-enum-told
+enum-told c = search needs
 
 cookie-of-requires : tie.Need-cookie-of-requires
 cookie-of-requires c κs = search needs
@@ -46,35 +43,30 @@ equal-requires-2 c κs = search needs
 
 returns : tie.Need-returns
 unfolding passes
-returns c = rw (c .enum-told .given .1, c .before .before .is-live .ensures)
+returns c = rw (c .before .before .sought .given .1, c .before .before .before .before .is-live .ensures, c .holder .ensures)
 
 returns-2 : tie.Need-returns-2
-unfolding passes
-returns-2 c = rw (c .before .before .sought .given .1, c .before .before .before .before .is-live .ensures, c .holder .ensures)
+unfolding passes liveWithId
+returns-2 c = rw (c .before .before .sought2 .given .1, c .before .before .before .before .is-live .ensures, c .id-of .ensures)
 
 returns-3 : tie.Need-returns-3
-unfolding passes liveWithId
-returns-3 c = rw (c .before .before .sought2 .given .1, c .before .before .before .before .is-live .ensures, c .id-of .ensures)
+unfolding passes
+returns-3 c = rw (c .before .before .enum-told .given .1, c .before .before .before .before .is-live .ensures, c .equal .ensures, c .before .cookie-of .ensures)
 
 returns-4 : tie.Need-returns-4
 unfolding passes
-returns-4 c = rw (c .before .before .enum-told2 .given .1, c .before .before .before .before .is-live .ensures, c .equal .ensures, c .before .cookie-of .ensures)
-
-returns-5 : tie.Need-returns-5
-unfolding passes
-returns-5 c = rw (c .before .before .before .before .sought3 .given .1, c .before .before .before .before .before .before .is-live .ensures, c .before .before .holder2 .ensures, c .equal2 .ensures, c .before .cookie-of2 .ensures)
+returns-4 c = rw (c .before .before .before .before .sought3 .given .1, c .before .before .before .before .before .before .is-live .ensures, c .before .before .holder2 .ensures, c .equal2 .ensures, c .before .cookie-of2 .ensures)
 
 pub passes-spec : {M : Type 1} → statement M
 passes-spec =
     tie.close
     (tie.spec
     is-live-requires
-    enum-told
     enum-known-sought
     holder-requires
     enum-known-sought-2
     id-of-requires
-    enum-told-2
+    enum-told
     cookie-of-requires
     equal-requires
     enum-known-sought-3
@@ -84,5 +76,4 @@ passes-spec =
     returns
     returns-2
     returns-3
-    returns-4
-    returns-5)
+    returns-4)

@@ -1,5 +1,5 @@
 -- `decide_lease`: a law for each way out. e and k are the places behind the calls of `end_row` and `cookie_taken`.
-use Rattle.leases.proofs.LeaseDecisions.{holds-lease, no-spare-row, cookie-in-use, by-free-id}
+use Rattle.leases.proofs.LeaseDecisions.{holds-lease, no-spare-row, cookie-in-use, no-free-id, renews-or-grants}
 use borrow.Author.Needs.{needs}
 use native.Mathlib.Omega.{arith}
 use Rattle.leases.proofs.decide_lease.Statement.{statement}
@@ -9,7 +9,7 @@ holds-row-requires : tie.Need-holds-row-requires
 holds-row-requires c κs = search needs
 
 returns : tie.Need-returns
-returns c = holds-lease _ _ _ _ (c .before .holds-row .ensures) (c .if1 .taken)
+returns c = holds-lease _ _ _ _ _ _ (c .before .holds-row .ensures) (c .if1 .taken)
 
 partner-of-requires : tie.Need-partner-of-requires
 partner-of-requires c κs = search needs
@@ -23,7 +23,7 @@ end-row-requires c κs = search needs
 returns-2 : tie.Need-returns-2
 returns-2 c =
     let e = c .before in
-    no-spare-row _ _ _ _ (e .before .before .before .before .holds-row .ensures) (e .before .before .before .if1 .left) (e .before .before .partner-of .ensures) (e .before .spare-row .ensures) (e .end-row .ensures) (omega arith)
+    no-spare-row _ _ _ _ _ _ (e .before .before .before .before .holds-row .ensures) (e .before .before .before .if1 .left) (e .before .before .partner-of .ensures) (e .before .spare-row .ensures) (e .end-row .ensures) (omega arith)
 
 part-requires : tie.Need-part-requires
 part-requires c κs = search needs
@@ -35,7 +35,7 @@ returns-3 : tie.Need-returns-3
 returns-3 c =
     let k = c .before in
     let e = k .before .before .before in
-    cookie-in-use _ _ _ _ (e .before .before .before .before .holds-row .ensures) (e .before .before .before .if1 .left) (e .before .before .partner-of .ensures) (e .before .spare-row .ensures) (e .end-row .ensures) (omega arith)
+    cookie-in-use _ _ _ _ _ _ (e .before .before .before .before .holds-row .ensures) (e .before .before .before .if1 .left) (e .before .before .partner-of .ensures) (e .before .spare-row .ensures) (e .end-row .ensures) (omega arith)
     (k .before .part .ensures) (k .cookie-taken .ensures) (c .if3 .taken)
 
 free-id-requires : tie.Need-free-id-requires
@@ -44,22 +44,26 @@ free-id-requires c κs = search needs
 enum-known-id : tie.Need-enum-known-id
 enum-known-id c = search needs
 
+renew-or-grant-requires : tie.Need-renew-or-grant-requires
+renew-or-grant-requires c κs = search needs
+
 enum-told : tie.Need-enum-told
 enum-told c = search needs
 
 returns-4 : tie.Need-returns-4
 returns-4 c =
-    let k = c .before .before .before .before .before in
+    let f = c .before .before .before in
+    let k = f .before .before .before in
     let e = k .before .before .before in
-    by-free-id _ _ _ _ (e .before .before .before .before .holds-row .ensures) (e .before .before .before .if1 .left) (e .before .before .partner-of .ensures) (e .before .spare-row .ensures) (e .end-row .ensures) (omega arith)
-    (k .before .part .ensures) (k .cookie-taken .ensures) (c .before .before .before .before .if3 .left) (c .before .before .before .free-id .ensures) _ (c .before .id .given .1)
+    renews-or-grants _ _ _ _ _ _ (e .before .before .before .before .holds-row .ensures) (e .before .before .before .if1 .left) (e .before .before .partner-of .ensures) (e .before .spare-row .ensures) (e .end-row .ensures) (omega arith)
+    (k .before .part .ensures) (k .cookie-taken .ensures) (f .before .before .if3 .left) (f .before .free-id .ensures) (c .before .before .id .given .1) (c .renew-or-grant .ensures _)
 
 returns-5 : tie.Need-returns-5
 returns-5 c =
     let k = c .before .before .before .before in
     let e = k .before .before .before in
-    by-free-id _ _ _ _ (e .before .before .before .before .holds-row .ensures) (e .before .before .before .if1 .left) (e .before .before .partner-of .ensures) (e .before .spare-row .ensures) (e .end-row .ensures) (omega arith)
-    (k .before .part .ensures) (k .cookie-taken .ensures) (c .before .before .before .if3 .left) (c .before .before .free-id .ensures) _ (c .enum-told .given .1)
+    no-free-id _ _ _ _ _ _ (e .before .before .before .before .holds-row .ensures) (e .before .before .before .if1 .left) (e .before .before .partner-of .ensures) (e .before .spare-row .ensures) (e .end-row .ensures) (omega arith)
+    (k .before .part .ensures) (k .cookie-taken .ensures) (c .before .before .before .if3 .left) (c .before .before .free-id .ensures) (c .enum-told .given .1)
 
 pub decide-lease-spec : {M : Type 1} → statement M
 decide-lease-spec =
@@ -76,6 +80,7 @@ decide-lease-spec =
     returns-3
     free-id-requires
     enum-known-id
+    renew-or-grant-requires
     enum-told
     returns-4
     returns-5)

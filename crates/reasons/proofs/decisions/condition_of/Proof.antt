@@ -20,6 +20,9 @@ enum-told-4 c = search needs
 enum-known-decision : tie.Need-enum-known-decision
 enum-known-decision c = search needs
 
+enum-known-decision-2 : tie.Need-enum-known-decision-2
+enum-known-decision-2 c = search needs
+
 returns : tie.Need-returns
 returns c random = rw (c .enum-told .given .1)
 
@@ -35,6 +38,9 @@ returns-4 c random = rw (c .enum-told4 .given .1)
 returns-5 : tie.Need-returns-5
 returns-5 c random = rw (c .before .decision .given .1)
 
+returns-6 : tie.Need-returns-6
+returns-6 c random = rw (c .before .decision2 .given .1)
+
 pub condition-of-spec : {M : Type 1} → statement M
 condition-of-spec =
     tie.close
@@ -44,8 +50,10 @@ condition-of-spec =
     enum-told-3
     enum-told-4
     enum-known-decision
+    enum-known-decision-2
     returns
     returns-2
     returns-3
     returns-4
-    returns-5)
+    returns-5
+    returns-6)

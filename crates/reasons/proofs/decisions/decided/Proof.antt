@@ -18,6 +18,9 @@ returns c al reply relay = rw (ne-eqb _ 0 (c .before .if1 .taken)) (c .nothing-n
 byte-requires : tie.Need-byte-requires
 byte-requires c κs = search needs
 
+part-requires : tie.Need-part-requires
+part-requires c κs = search needs
+
 decide-lease-requires : tie.Need-decide-lease-requires
 decide-lease-requires c κs = search needs
 
@@ -26,10 +29,11 @@ condition-of-requires c κs = search needs
 
 returns-2 : tie.Need-returns-2
 returns-2 c al reply relay =
-    let s = c .before .before .before .before .before .before .before .before .before in
-    rw (eq-eqb _ 0 (c .before .before .before .before .if1 .left))
-    (lease-way (s .args .connections .now) (s .args .leases .now) al (s .args .time) (s .args .c) (s .args .m .now) (s .args .random .now) reply relay (s .pre .from-peer) _ (c .before .before .before .byte .ensures) (c .before .before .if2 .taken) _
-    (c .condition-of .ensures (s .args .random .now) ∙ ap conditionOf (c .before .decide-lease .ensures)))
+    let e = c .before .before .before in
+    let s = e .before .before .before .before .before .before .before in
+    rw (eq-eqb _ 0 (e .before .before .if1 .left))
+    (lease-way (s .args .connections .now) (s .args .leases .now) al (s .args .time) (s .args .c) (s .args .m .now) (s .args .random .now) reply relay (s .pre .from-peer) _ (e .before .byte .ensures) (e .if2 .taken) _
+    (c .condition-of .ensures (s .args .random .now) ∙ ap conditionOf (c .before .decide-lease .ensures) ∙ rw (c .before .before .part .ensures)))
 
 read32-requires : tie.Need-read32-requires
 read32-requires c κs =
@@ -66,6 +70,7 @@ decided-spec =
     nothing-named-requires
     returns
     byte-requires
+    part-requires
     decide-lease-requires
     condition-of-requires
     returns-2

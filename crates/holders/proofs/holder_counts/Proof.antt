@@ -1,7 +1,7 @@
 -- `holder_counts`: two tests.
 use borrow.Author.Needs.{needs}
-use Rattle.statuses.proofs.holder_counts.Statement.{statement}
-use Rattle.statuses.proofs.holder_counts.Tie as tie
+use Rattle.holders.proofs.holder_counts.Statement.{statement}
+use Rattle.holders.proofs.holder_counts.Tie as tie
 
 is-open-requires : tie.Need-is-open-requires
 is-open-requires c κs = search needs

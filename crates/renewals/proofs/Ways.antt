@@ -1,0 +1,37 @@
+-- The ways out of the test whether a row is renewable, over plain values: one for each part of the sentence that fails, and the last part.
+-- Assumes nothing.
+use Prim.Native.Nat.{ℕ, _<_}
+use mathlib.Core.Path.{_≡_}
+use mathlib.Core.Bool.{Bool, true, false, not, _&&_}
+use mathlib.Core.List.{List}
+use native.Mathlib.Omega.{arith}
+use lib.Dec.{ltb}
+use borrow.Author.Tests.{lt-ltb, not-true, not-false}
+use Rattle.octets.specs.Octets.{same}
+use Rattle.rules.specs.Tables.{expiry, cookieOf, live, holderCounts}
+use Rattle.rules.specs.Leases.{idElsewhere, renewable}
+
+-- k is the row's cookie, and alike, until, held and elsewhere are what the code's tests answer, in their order
+module _
+    (cs ls : List ℕ) (now : ℕ) (cookie : List ℕ) (r : ℕ) {k : List ℕ} {alike : Bool} (own : k ≡ cookieOf ls r) (test : alike ≡ same k cookie)
+  where
+    pub another-cookie : not alike ≡ true → false ≡ renewable cs ls now cookie r
+    unfolding renewable
+    another-cookie e = rw (← own, ← test, not-true alike e)
+
+    module _ {until : ℕ} (match : not alike ≡ false) (ends : until ≡ expiry ls r) where
+      pub never-used : until ≡ 0 → false ≡ renewable cs ls now cookie r
+      unfolding renewable
+      never-used e = rw (← own, ← test, not-false alike match, ← ends, e)
+
+      module _ {taken : Bool} (used : (until ≡ 0) → ⊥) (holds : taken ≡ (live ls now r && holderCounts cs ls r)) where
+        above : ltb 0 until ≡ true
+        above = lt-ltb 0 until (omega (arith, used))
+
+        pub held : taken ≡ true → false ≡ renewable cs ls now cookie r
+        unfolding renewable
+        held e = rw (← own, ← test, not-false alike match, ← ends, above, ← holds, e)
+
+        pub by-id : {elsewhere : Bool} → taken ≡ false → elsewhere ≡ idElsewhere ls now r → not elsewhere ≡ renewable cs ls now cookie r
+        unfolding renewable
+        by-id e other = rw (← own, ← test, not-false alike match, ← ends, above, ← holds, e, other)
