@@ -87,7 +87,7 @@ fn count_effects(effects: &mut Tally, relay: &Relay, call: &Call, caller: usize,
             let request = Request::decode(message).expect("an accepted message");
             let random = RandomBytes::new(random).expect("an accepted call");
             count_request(effects, request, outcome);
-            if request == Request::Lease {
+            if matches!(request, Request::Lease { .. }) {
                 count_lease(effects, relay, caller, random, call.now);
             }
         }
@@ -103,7 +103,7 @@ fn count_effects(effects: &mut Tally, relay: &Relay, call: &Call, caller: usize,
 fn count_request(effects: &mut Tally, request: Request, outcome: &Outcome) {
     let reply = outcome.reply();
     let name = match request {
-        Request::Lease => return,
+        Request::Lease { .. } => return,
         Request::Establish { .. } => return effects.count(STATUS, reply[5].into()),
         Request::VersionAnswer { .. } if outcome.answer.disconnect == 1 => "version refused, disconnect",
         Request::VersionAnswer { .. } => "version accepted",
