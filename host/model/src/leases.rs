@@ -69,9 +69,9 @@ impl Relay {
         not_live.min_by_key(|(_, lease)| lease.expiry).map(|(row, _)| row)
     }
 
-    /// Grants the lease and gives its id, cookie and expiry, or does nothing: "Whether a lease is accepted is decided as
-    /// in 01, cookie or not. If accepted, [.. a] row is renewed for this connection with its id and cookie, and no new
-    /// row is used."
+    /// Grants the lease and gives its id, cookie and expiry, or does nothing: "Whether a lease is accepted is decided
+    /// as in 01, cookie or not. If accepted, and [there is such a row, it] is renewed for this connection with its id
+    /// and cookie, and no new row is used."
     pub(crate) fn lease(
         &mut self,
         caller: usize,

@@ -71,7 +71,8 @@ fn ask_with(tables: &mut Tables, now: u64, caller: u64, request: &[u8], random: 
     }
 }
 
-/// The connection asks with K, and must get this id and cookie in this row. No other byte of the lease table may change.
+/// The connection asks with K, and must get this id and cookie in this row. No other byte of the lease table may
+/// change.
 fn assert_granted(relay: &Relay, now: u64, caller: u64, row: usize, id: u32, cookie: [u8; 24]) {
     let mut tables = marked(relay);
     let mut expected = tables.leases.clone();
