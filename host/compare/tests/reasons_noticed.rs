@@ -292,6 +292,10 @@ fn what_is_overlooked() {
         explain_calls(&Overlooking(overlook)).expect_err(what);
     }
     explain_calls(&LastCondition).expect_err("which condition is the first");
+}
+
+#[test]
+fn conditions_that_a_renewal_could_do_without() {
     for condition in [Condition::HoldsNone, Condition::RowLeft, Condition::CookieIsNew, Condition::FreeId] {
         explain_calls(&NotToRenew(condition)).expect_err("that the conditions are those of any lease");
     }

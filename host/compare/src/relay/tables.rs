@@ -40,9 +40,7 @@ fn nearly_valid(random: &mut Random, now: u64) -> Tables {
     }
     let cookies: [Vec<u8>; 4] = [0, 1, 2, 3].map(|_| random.bytes(24));
     let mut leases: Vec<u8> = (0..PARTNERS).flat_map(|partner| leases_of(random, partner, now, &cookies)).collect();
-    for _ in 0..random.below(LEASES / 2) {
-        double_id(random, &mut leases);
-    }
+    repeat_ids(random, &mut leases);
     let allowances = (0..=PARTNERS).flat_map(|_| allowance(random, now)).collect();
     Tables { connections, leases, allowances }
 }
@@ -113,14 +111,17 @@ fn expiry(random: &mut Random, now: u64, live: bool, never_leased: bool) -> u64 
     }
 }
 
-/// Gives a row the id of another, one time in two of the same partner: so an id that few rows have stands in two.
-fn double_id(random: &mut Random, leases: &mut [u8]) {
-    let one = random.below(LEASES);
+/// Gives rows, some or many, the id of another one, half of these of the same partner. So there are ids that just two
+/// rows have.
+fn repeat_ids(random: &mut Random, leases: &mut [u8]) {
     let each = LEASES / PARTNERS;
-    let partner = if random.one_in(2) { random.below(PARTNERS) } else { one / each };
-    let other = partner * each + random.below(each);
-    let id = one * LEASE_LENGTH + 8..one * LEASE_LENGTH + 12;
-    leases.copy_within(id, other * LEASE_LENGTH + 8);
+    for _ in 0..random.below(LEASES / 2) {
+        let one = random.below(LEASES);
+        let partner = if random.one_in(2) { random.below(PARTNERS) } else { one / each };
+        let other = partner * each + random.below(each);
+        let id = one * LEASE_LENGTH + 8..one * LEASE_LENGTH + 12;
+        leases.copy_within(id, other * LEASE_LENGTH + 8);
+    }
 }
 
 fn allowance(random: &mut Random, now: u64) -> Vec<u8> {

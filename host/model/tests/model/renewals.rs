@@ -141,9 +141,7 @@ fn a_live_row_is_renewed_if_its_holder_doesn_t_count() {
     for holder in others.into_iter().chain(neighbours) {
         let mut relay = relay_with_row_0(2, 101, holder as u8);
         relay.connections[3].set_state(State::Awaiting);
-        for neighbour in neighbours {
-            relay.connections[neighbour].set_state(State::Open);
-        }
+        neighbours.iter().for_each(|&neighbour| relay.connections[neighbour].set_state(State::Open));
         assert_renewed(&relay, 100, 1, 0);
     }
 }
@@ -253,10 +251,7 @@ fn a_new_lease_takes_the_earliest_row_cookie_or_not() {
         lease.expiry = 60;
     }
     relay.leases[0].cookie = [0; 24];
-    relay.leases[1].expiry = 101;
-    for row in [3, 9] {
-        relay.leases[row].expiry = 40;
-    }
+    (relay.leases[1].expiry, relay.leases[3].expiry, relay.leases[9].expiry) = (101, 40, 40);
     assert_new(&relay, 100, 0, 3);
     let mut tables = relay.encode();
     assert_eq!(ask(&mut tables, 100, 0, &[2, 0]), Some((NEW_ID, NEW_COOKIE, 3_700)));
