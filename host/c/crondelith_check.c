@@ -1,6 +1,7 @@
 /* A scene over the compiled engine, through include/crondelith.h as a C program would call it: two connections of one partner lease
- * an id, hold a session, use up their allowance and leave, and each refusal from 1 to 9 comes. What must come back was worked out
- * from the scope document by hand. Every other case is compared in Rust (host/compare). */
+ * an id, hold a session, use up their allowance and leave, and each refusal from 1 to 9 comes. After power cuts others come back with
+ * the cookie and have the id again. What must come back was worked out from the scope document and the request by hand. Every other
+ * case is compared in Rust (host/compare). */
 #include <string.h>
 
 #include "check.h"
@@ -24,6 +25,16 @@ static uint8_t longest[65534];
 #define P "pppppppppppppppp"
 #define Q "qqqqqqqqqqqqqqqq"
 static const uint8_t random_bytes[] = S I K P Q; /* and a 0 behind them */
+#define COOKIE S "iiiiiiii"
+
+/* Another cookie, and id 2 fourteen times. */
+#define OTHER_COOKIE "another drawn cookie...."
+#define ID_2 "\0\0\0\2"
+#define IDS_2 ID_2 ID_2 ID_2 ID_2 ID_2 ID_2 ID_2 ID_2 ID_2 ID_2 ID_2 ID_2 ID_2 ID_2
+static const uint8_t other_random_bytes[] = OTHER_COOKIE IDS_2;
+
+#define ROW 40 /* the length of a lease's record */
+static uint8_t expected_leases[CRONDELITH_LEASES];
 
 #define TABLES connections, sizeof connections, leases, sizeof leases, allowances, sizeof allowances
 
@@ -34,9 +45,13 @@ static void check_answer(crondelith_answer answer, uint32_t number, uint32_t in_
     CHECK(answer.destination == destination && answer.disconnect == disconnect);
 }
 
+static crondelith_answer send_with(const uint8_t *random, uint64_t now, uint64_t connection, const void *message, size_t length) {
+    return crondelith_message(TABLES, now, connection, message, length, random, CRONDELITH_RANDOM, reply, sizeof reply, relay,
+                              sizeof relay);
+}
+
 static crondelith_answer send(uint64_t now, uint64_t connection, const void *message, size_t length) {
-    return crondelith_message(TABLES, now, connection, message, length, random_bytes, CRONDELITH_RANDOM, reply, sizeof reply,
-                              relay, sizeof relay);
+    return send_with(random_bytes, now, connection, message, length);
 }
 
 static void check_open(uint64_t now, uint64_t connection) {
@@ -82,7 +97,7 @@ static void check_session(void) {
     check_answer(send(101, 8, "\6\0\0\0\5", 5), 0, 6, 0, CRONDELITH_NOBODY, 0);
     CHECK(memcmp(reply, "\7\0\0\0\5\1", 6) == 0);
     check_answer(send(102, 9, "\2\0", 2), 0, 38, 0, CRONDELITH_NOBODY, 0);
-    CHECK(memcmp(reply, "\3\1\0\0\0\1" S "iiiiiiii\0\0\0\0\0\0\16\166", 38) == 0);
+    CHECK(memcmp(reply, "\3\1\0\0\0\1" COOKIE "\0\0\0\0\0\0\16\166", 38) == 0);
     check_establish(103);
     check_answer(send(104, 8, "\13hi", 3), 0, 0, 3, 9, 0);
     CHECK(memcmp(relay, "\14hi", 3) == 0);
@@ -114,12 +129,52 @@ static void check_leave(void) {
     check_refused(crondelith_close(TABLES, 112, 8, relay, CRONDELITH_BUFFER), 4);
 }
 
+/* The lease table must be what is expected once the row has these bytes. */
+static void check_row(int row, const char *bytes) {
+    memcpy(expected_leases + ROW * row, bytes, ROW);
+    CHECK(memcmp(leases, expected_leases, sizeof leases) == 0);
+}
+
+static void check_comes(uint64_t now, uint64_t connection) {
+    check_open(now, connection);
+    check_answer(send(now, connection, "\1\1", 2), 0, 0, 0, CRONDELITH_NOBODY, 0);
+}
+
+static void check_granted(crondelith_answer answer, const char *contents) {
+    check_answer(answer, 0, 38, 0, CRONDELITH_NOBODY, 0);
+    CHECK(reply[0] == 3 && reply[1] == 1 && memcmp(reply + 2, contents, 36) == 0);
+}
+
+/* Connection 9 left a live lease, id 1 until 3702, in row 16, the partner's first. At 120 connection 10 comes with its cookie: first
+ * the drawn cookie is this one too, which is live; then it has the id until 3720. It is cut off, and at 9000 connection 11 has the id
+ * until 12600, with the same drawn cookie, which is live no more. While 11 is open, 12 gets another row. */
+static void check_cookie(void) {
+    static const char request[] = "\2\1" COOKIE;
+    for (size_t row = 0; row < sizeof leases; row += ROW) expected_leases[row + 12] = CRONDELITH_NOBODY;
+    check_row(16, "\0\0\0\0\0\0\16\166\0\0\0\1\377\0\0\0" COOKIE);
+    check_comes(120, 10);
+    check_answer(send(120, 10, request, 26), 0, 2, 0, CRONDELITH_NOBODY, 0);
+    CHECK(memcmp(reply, "\3\0", 2) == 0);
+    check_row(16, "\0\0\0\0\0\0\16\166\0\0\0\1\377\0\0\0" COOKIE);
+    check_granted(send_with(other_random_bytes, 120, 10, request, 26), "\0\0\0\1" COOKIE "\0\0\0\0\0\0\16\210");
+    check_row(16, "\0\0\0\0\0\0\16\210\0\0\0\1\12\0\0\0" COOKIE);
+    check_answer(crondelith_close(TABLES, 121, 10, relay, CRONDELITH_BUFFER), 0, 0, 0, CRONDELITH_NOBODY, 0);
+    check_comes(9000, 11);
+    check_row(16, "\0\0\0\0\0\0\16\210\0\0\0\1\377\0\0\0" COOKIE);
+    check_granted(send(9000, 11, request, 26), "\0\0\0\1" COOKIE "\0\0\0\0\0\0\61\70");
+    check_row(16, "\0\0\0\0\0\0\61\70\0\0\0\1\13\0\0\0" COOKIE);
+    check_comes(9000, 12);
+    check_granted(send_with(other_random_bytes, 9000, 12, request, 26), ID_2 OTHER_COOKIE "\0\0\0\0\0\0\61\70");
+    check_row(17, "\0\0\0\0\0\0\61\70" ID_2 "\14\0\0\0" OTHER_COOKIE);
+}
+
 int main(void) {
     check_fresh();
     check_opens();
     check_session();
     check_allowance();
     check_leave();
+    check_cookie();
     printf("crondelith_check: %d failed\n", failures);
     return failures != 0;
 }

@@ -25,6 +25,10 @@ static struct {
 #define IDS_1 ID_1 ID_1 ID_1 ID_1 ID_1 ID_1 ID_1 ID_1 ID_1 ID_1 ID_1 ID_1 ID_1
 static const uint8_t random_bytes[] = COOKIE IDS_1 "\4\0\0\2"; /* and a 0 behind them */
 
+/* Cookies of live rows: one that connection 9 holds, and one that nobody does. */
+#define OF_9 "of connection 9........."
+#define OF_NOBODY "of nobody..............."
+
 static const uint8_t keepalive[] = {13};
 static uint8_t longest[65534];
 
@@ -71,8 +75,8 @@ static void make_scene(void) {
     set_connection(13, 1, 255);
     set_connection(16, 2, 255);
     set_lease(16, 1, 10, COOKIE);
-    set_lease(17, 3, 9, "of connection 9.........");
-    set_lease(18, 4, 255, "of nobody...............");
+    set_lease(17, 3, 9, OF_9);
+    set_lease(18, 4, 255, OF_NOBODY);
     set_lease(32, 5, 16, "of partner 2............");
 }
 
@@ -162,20 +166,21 @@ static void check_messages(void) {
     check_reason(explain(8, longest, sizeof longest), 0, 0, 0, 1, 0);
 }
 
-/* Connection 10 holds a live row; to 11 a row is left, but the cookie is a live row's; with another one, id 2 is free. */
-static void check_leases(void) {
+/* Connection 10 holds a live row; to 11 a row is left, but the drawn cookie is a live row's; with another one, id 2 is free. What the
+ * request costs is all that its cookie changes. */
+static void check_leases(const char *request, size_t length, int64_t headroom) {
     make_scene();
-    check_reason(explain(10, "\2\0", 2), 0, 1, 1, 1, 262110);
-    check_reason(explain(11, "\2\0", 2), 0, 1, 3, 1, 262110);
+    check_reason(explain(10, request, length), 0, 1, 1, 1, headroom);
+    check_reason(explain(11, request, length), 0, 1, 3, 1, headroom);
     set_lease(16, 1, 10, "another cookie..........");
-    check_reason(explain(11, "\2\1" COOKIE, 26), 0, 1, 0, 1, 262086);
+    check_reason(explain(11, request, length), 0, 1, 0, 1, headroom);
     set_lease(32, 2, 16, "of partner 2............");
-    check_reason(explain(11, "\2\0", 2), 0, 1, 4, 1, 262110);
+    check_reason(explain(11, request, length), 0, 1, 4, 1, headroom);
     for (int row = 19; row < 32; row++) set_lease(row, 6, 255, COOKIE);
-    check_reason(explain(11, "\2\0", 2), 0, 1, 2, 1, 262110);
-    check_reason(explain(10, "\2\0", 2), 0, 1, 1, 1, 262110);
-    set_level(10, 100);
-    check_reason(explain(10, "\2\0", 2), 9, 0, 0, 1, -24);
+    check_reason(explain(11, request, length), 0, 1, 2, 1, headroom);
+    check_reason(explain(10, request, length), 0, 1, 1, 1, headroom);
+    set_level(10, 100); /* 262,134 less */
+    check_reason(explain(10, request, length), 9, 0, 0, 1, headroom - 262134);
 }
 
 static void check_establishes(void) {
@@ -194,7 +199,11 @@ int main(void) {
     check_opens();
     check_closes();
     check_messages();
-    check_leases();
+    check_leases("\2\0", 2, 262110);
+    /* With the cookie of rows that come and go here, of a held row, and of one that is renewed if the lease is accepted. */
+    check_leases("\2\1" COOKIE, 26, 262086);
+    check_leases("\2\1" OF_9, 26, 262086);
+    check_leases("\2\1" OF_NOBODY, 26, 262086);
     check_establishes();
     printf("crondelith_reasons_check: %d failed\n", failures);
     return failures != 0;

@@ -60,6 +60,6 @@ fn explain_run(calls: &mut Calls, reached: &mut Reached) -> Result<(), Differenc
 /// The reason must be that of the second implementation, and tell what the relay then does.
 fn explain_and_make(reached: &mut Reached, tables: &Tables, call: &Call) -> Result<(), Difference> {
     let reason = agree::explain(&Proved, tables, call)?;
-    reached.count(call, &reason);
+    reached.count(tables, call, &reason);
     truth::check(&Proved, tables, call, &reason)
 }

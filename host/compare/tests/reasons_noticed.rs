@@ -5,12 +5,13 @@ use compare::reasons::boundary::Explain;
 use compare::reasons::{agree, truth};
 use compare::relay::boundary::{Call, Kind, Lent, Second};
 use compare::relay::calls::Calls;
+use compare::relay::leases::Asked;
 use compare::relay::runs::decoded;
 use compare::relay::single;
 use compare::relay::spoiled::SPOILED_BYTES;
 use compare::{amount, forms};
 use engine::reasons::{Reason, LEASE};
-use model::{partner_of, Lease, RandomBytes, Relay, State, Tables, LEVEL_LIMIT, TIME_LIMIT};
+use model::{partner_of, Condition, Lease, RandomBytes, Relay, State, Tables, LEVEL_LIMIT, TIME_LIMIT};
 
 /// Explains as the second implementation does, and then spoils something.
 #[derive(Clone, Copy)]
@@ -155,7 +156,7 @@ impl Explain for Overlooking {
     }
 }
 
-const OVERLOOKED: [(&str, Overlook); 12] = [
+const OVERLOOKED: [(&str, Overlook); 13] = [
     ("the refill", |relay, call| relay.allowances[partner(call)].updated = call.now),
     ("whose allowance it is", |relay, call| relay.allowances[partner(call)] = relay.allowances[0].clone()),
     ("that time doesn't go back", |relay, _| relay.set_clock(0)),
@@ -165,6 +166,7 @@ const OVERLOOKED: [(&str, Overlook); 12] = [
     ("that the relay buffer holds the message", |_, call| hold_message(&mut call.kind)),
     ("how many random bytes there are", |_, call| resize_random(&mut call.kind)),
     ("the last candidate", |_, call| repeat_candidate(&mut call.kind)),
+    ("which cookie has to be new", |_, call| draw_the_cookie(&mut call.kind)),
     ("that a lease ends at its expiry", |relay, _| relay.leases.iter_mut().for_each(prolong)),
     ("ids live under another partner", |relay, call| end_leases_but_of(relay, partner(call))),
     ("that both name each other in a session", |relay, call| name_back(relay, call)),
@@ -210,6 +212,17 @@ fn repeat_candidate(kind: &mut Kind) {
     }
 }
 
+/// Takes the cookie that a lease is asked for with, if there is one, for the drawn one.
+fn draw_the_cookie(kind: &mut Kind) {
+    if let Kind::Message { message, random, .. } = kind {
+        if let ([2, 1, cookie @ ..], Some(drawn)) = (&message[..], random.get_mut(..24)) {
+            if cookie.len() == drawn.len() {
+                drawn.copy_from_slice(cookie);
+            }
+        }
+    }
+}
+
 fn prolong(lease: &mut Lease) {
     lease.expiry = lease.expiry.saturating_add(1);
 }
@@ -247,6 +260,21 @@ impl Explain for LastCondition {
     }
 }
 
+/// Names no condition of a lease where this one is the first that fails and a row could be renewed.
+struct NotToRenew(Condition);
+
+impl Explain for NotToRenew {
+    fn explain(&self, call: &Call, lent: &mut Lent) -> Reason {
+        let mut reason = Second.explain(call, lent);
+        if reason.request == LEASE && reason.condition == self.0 as u32 {
+            let relay = decoded(&lent.tables());
+            let asked = Asked::new(&relay, call).expect("a done lease");
+            reason.condition *= u32::from(asked.row_to_renew().is_none());
+        }
+        reason
+    }
+}
+
 /// Explains single calls, as many as the compiled functions do, until a reason is wrong.
 fn explain_calls(subject: &impl Explain) -> Result<(), Difference> {
     let mut random = amount::random();
@@ -264,4 +292,11 @@ fn what_is_overlooked() {
         explain_calls(&Overlooking(overlook)).expect_err(what);
     }
     explain_calls(&LastCondition).expect_err("which condition is the first");
+}
+
+#[test]
+fn conditions_that_a_renewal_could_do_without() {
+    for condition in [Condition::HoldsNone, Condition::RowLeft, Condition::CookieIsNew, Condition::FreeId] {
+        explain_calls(&NotToRenew(condition)).expect_err("that the conditions are those of any lease");
+    }
 }

@@ -48,7 +48,7 @@ fn partner(call: &Call) -> usize {
     call.caller().map_or(0, partner_of)
 }
 
-const WRONG_RELAYS: [Wrong; 6] = [
+const WRONG_RELAYS: [Wrong; 8] = [
     // Nothing is charged.
     Wrong(|call, _, before, after| after.allowances[partner(call)] = before.allowances[partner(call)].clone()),
     // One less than the cost is charged.
@@ -62,6 +62,20 @@ const WRONG_RELAYS: [Wrong; 6] = [
         if answer.number == 0 && call.message() == [9] {
             let level = &mut after.allowances[partner(call)].level;
             *level = level.saturating_sub(1);
+        }
+    }),
+    // The cookie of a lease request is free.
+    Wrong(|call, answer, _, after| {
+        if answer.number == 0 && call.message().starts_with(&[2, 1]) {
+            after.allowances[partner(call)].level += 24;
+        }
+    }),
+    // A renewal is free.
+    Wrong(|call, answer, before, after| {
+        let mut rows = before.leases.iter().zip(&after.leases);
+        let renewed = rows.any(|(old, new)| old.expiry != new.expiry && old.cookie == new.cookie && old.id == new.id);
+        if answer.number == 0 && call.message().starts_with(&[2, 1]) && renewed {
+            after.allowances[partner(call)] = before.allowances[partner(call)].clone();
         }
     }),
     // A refused call stores its time without the refill.

@@ -4,9 +4,10 @@ use compare::difference::Difference;
 use compare::relay::agree;
 use compare::relay::boundary::Proved;
 use compare::relay::calls::Calls;
+use compare::relay::leases::{LastHolders, IN_RUNS};
 use compare::relay::monitor::{Entry, Fault, Monitor};
 use compare::relay::reached::Reached;
-use compare::relay::runs::{decoded, Run};
+use compare::relay::runs::{decoded, doubled_id, Run};
 use compare::{amount, forms};
 
 const RUNS: u64 = 250;
@@ -47,7 +48,7 @@ fn runs_of_both_relays() -> Result<(), Failure> {
         ("message", &[0, 2, 3, 4, 5, 6, 7, 8, 9]),
         ("close", &[0, 2, 3, 4, 5]),
     ];
-    reached.assert_all(&answers);
+    reached.assert_all(&answers, &IN_RUNS);
     Ok(())
 }
 
@@ -57,15 +58,20 @@ fn compare_run(calls: &mut Calls, reached: &mut Reached) -> Result<(), Failure> 
     let begun = agree::call(&Proved, &anything, &start)?;
     reached.count(&anything, &start, &begun);
     let mut monitor = Monitor::new(start.now);
+    let mut last_holders = LastHolders::default();
     let mut tables = begun.lent.tables();
     for _ in 0..CALLS_OF_EACH {
         let relay = decoded(&tables);
         let call = run.next(calls, &relay);
         let outcome = agree::call(&Proved, &tables, &call)?;
         reached.count(&tables, &call, &outcome);
+        reached.count_return(&relay, &call, &outcome, &last_holders);
         monitor.record(&Entry::new(&relay, &call, outcome.answer.number))?;
         tables = outcome.lent.tables();
-        monitor.check_levels(&decoded(&tables))?;
+        let relay = decoded(&tables);
+        last_holders.note(&relay);
+        assert_eq!(doubled_id(&relay), None, "the id of two live rows, after {call:?}");
+        monitor.check_levels(&relay)?;
     }
     Ok(())
 }

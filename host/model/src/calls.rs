@@ -145,7 +145,7 @@ impl Relay {
     fn serve(&mut self, caller: usize, request: Request, random: RandomBytes, now: u64) -> Sent {
         match request {
             Request::VersionAnswer { ok } => self.answer_version(caller, ok),
-            Request::Lease => Sent::reply(match self.lease(caller, random, now) {
+            Request::Lease { cookie } => Sent::reply(match self.lease(caller, cookie, random, now) {
                 Some((id, ref cookie, expiration)) => Message::LeaseGranted { id, cookie, expiration },
                 None => Message::LeaseRefused,
             }),

@@ -3,7 +3,7 @@
 use crate::relay::{partner_of, partner_of_row, Relay};
 use crate::requests::RandomBytes;
 
-/// Seconds that a lease lasts from when it is granted or extended.
+/// Seconds that a lease lasts from when it is granted, renewed or extended.
 const TERM: u64 = 3_600;
 
 /// The four conditions of a lease, each with what it yields.
@@ -11,7 +11,7 @@ const TERM: u64 = 3_600;
 pub struct Offer {
     /// "the connection holds no live row"
     pub holds_none: bool,
-    /// "the partner has a row that isn't live": the lowest
+    /// "the partner has a row that isn't live": the one that a new lease takes
     pub row: Option<usize>,
     /// "the draw's bytes 0-23 aren't the cookie of a live row of the partner"
     pub cookie_is_new: bool,
@@ -40,7 +40,7 @@ impl Offer {
         all.into_iter().filter(|(_, holds)| !holds).map(|(condition, _)| condition)
     }
 
-    /// The row and id of the new lease, if all four hold.
+    /// The row and id that a new lease takes, if all four hold.
     fn accepted(self) -> Option<(usize, u32)> {
         if self.holds_none && self.cookie_is_new {
             self.row.zip(self.id)
@@ -56,21 +56,38 @@ impl Relay {
         let partner = partner_of(caller);
         Offer {
             holds_none: !self.live_rows(partner, now).any(|(row, _)| self.holder_of(row) == Some(caller)),
-            row: self.rows_of(partner).find(|(_, lease)| !lease.is_live(now)).map(|(row, _)| row),
+            row: self.row_of_new_lease(partner, now),
             cookie_is_new: self.live_rows(partner, now).all(|(_, lease)| lease.cookie != random.cookie()),
             id: random.candidates().find(|&id| self.is_free(id, now)),
         }
     }
 
-    /// Grants the lease and gives its id, cookie and expiry, or does nothing.
-    pub(crate) fn lease(&mut self, caller: usize, random: RandomBytes, now: u64) -> Option<(u32, [u8; 24], u64)> {
-        let (row, id) = self.offer(caller, random, now).accepted()?;
-        let lease = &mut self.leases[row];
-        lease.expiry = now + TERM;
-        lease.id = id;
+    /// "new leases take the row with the earliest expiry among those not live, the lowest on a tie"
+    fn row_of_new_lease(&self, partner: usize, now: u64) -> Option<usize> {
+        let not_live = self.rows_of(partner).filter(|(_, lease)| !lease.is_live(now));
+        // Of several with the least key, this gives the first.
+        not_live.min_by_key(|(_, lease)| lease.expiry).map(|(row, _)| row)
+    }
+
+    /// Grants the lease and gives its id, cookie and expiry, or does nothing: "Whether a lease is accepted is decided
+    /// as in 01, cookie or not. If accepted, and [there is such a row, it] is renewed for this connection with its id
+    /// and cookie, and no new row is used."
+    pub(crate) fn lease(
+        &mut self,
+        caller: usize,
+        cookie: Option<&[u8]>,
+        random: RandomBytes,
+        now: u64,
+    ) -> Option<(u32, [u8; 24], u64)> {
+        let (new_row, new_id) = self.offer(caller, random, now).accepted()?;
+        let renewed = cookie.and_then(|cookie| self.row_to_renew(partner_of(caller), cookie, now));
+        let lease = &mut self.leases[renewed.unwrap_or(new_row)];
+        if renewed.is_none() {
+            (lease.id, lease.cookie) = (new_id, random.cookie());
+        }
         lease.holder = caller as u8;
-        lease.cookie = random.cookie();
-        Some((id, lease.cookie, lease.expiry))
+        lease.expiry = now + TERM;
+        Some((lease.id, lease.cookie, lease.expiry))
     }
 
     /// Extends the lease and gives its expiry, "exactly if a live row of the partner, held by this connection, has that

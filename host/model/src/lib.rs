@@ -1,7 +1,7 @@
-//! The relay, written from the project's scope alone: a second implementation that shares nothing with the proved one
-//! but the papers. The three tables are decoded to typed records ([`Relay`]), a call acts on these, and what it leaves
-//! is encoded again if the call is accepted. [`reasons`] says of a call, without making it, why it is turned away or
-//! what decides it.
+//! The relay, written from the project's scope and requests alone: a second implementation that shares nothing with the
+//! proved one but the papers. The three tables are decoded to typed records ([`Relay`]), a call acts on these, and what
+//! it leaves is encoded again if the call is accepted. [`reasons`] says of a call, without making it, why it is turned
+//! away or what decides it.
 
 mod calls;
 mod checks;
@@ -9,6 +9,7 @@ mod leases;
 pub mod reasons;
 mod records;
 mod relay;
+mod renewals;
 mod requests;
 mod sessions;
 
@@ -16,7 +17,8 @@ pub use calls::{close, fresh, message, open, Answer};
 pub use checks::Refusal;
 pub use leases::{Condition, Offer};
 pub use records::{Allowance, Connection, Lease, Session, State};
-pub use relay::{partner_of, Relay, Tables, CONNECTIONS, LEASES, PARTNERS};
+pub use relay::{partner_of, partner_of_row, Relay, Tables, CONNECTIONS, LEASES, PARTNERS};
+pub use renewals::Part;
 pub use requests::{cost, RandomBytes, Request, BASE_COST};
 
 /// No connection: as a peer, a holder or a destination.

@@ -76,7 +76,8 @@ impl Relay {
             return Outcome::Stopped(refusal);
         }
         match passed.action {
-            Action::Request(Request::Lease, random) => {
+            // "Whether a lease is accepted is decided as in 01, cookie or not."
+            Action::Request(Request::Lease { .. }, random) => {
                 Outcome::Lease { failed: self.offer(passed.caller, random, now).failed().next() }
             }
             Action::Request(Request::Establish { id }, _) => {

@@ -10,8 +10,10 @@ pub enum Request<'a> {
     VersionAnswer {
         ok: bool,
     },
-    /// "A cookie in the request is ignored".
-    Lease,
+    /// "From now on a request's cookie is considered."
+    Lease {
+        cookie: Option<&'a [u8]>,
+    },
     Extension {
         cookie: &'a [u8],
     },
@@ -30,7 +32,8 @@ impl<'a> Request<'a> {
     pub fn decode(bytes: &'a [u8]) -> Option<Self> {
         match decode(bytes)? {
             Message::VersionAnswer { ok } => Some(Self::VersionAnswer { ok: ok == 1 }),
-            Message::LeaseRequest | Message::LeaseRequestWithCookie { .. } => Some(Self::Lease),
+            Message::LeaseRequest => Some(Self::Lease { cookie: None }),
+            Message::LeaseRequestWithCookie { cookie } => Some(Self::Lease { cookie: Some(cookie) }),
             Message::ExtensionRequest { cookie } => Some(Self::Extension { cookie }),
             Message::EstablishRequest { id } => Some(Self::Establish { id }),
             Message::SessionEnd => Some(Self::SessionEnd),

@@ -3,8 +3,11 @@
 use std::fmt;
 
 use engine::reasons::{Reason, ESTABLISH, LEASE};
+use model::Tables;
 
 use crate::relay::boundary::Call;
+use crate::relay::leases::Asked;
+use crate::relay::runs::decoded;
 use crate::tally::Tally;
 
 /// The checks that stop each call, and 0.
@@ -14,7 +17,10 @@ const CHECKS: [(&str, &[u32]); 3] =
 /// The names under which the conditions of done leases and the statuses of done establishes are counted.
 const CONDITION: &str = "lease condition";
 const STATUS: &str = "establish status";
-const DECISIONS: [(&str, &[u32]); 2] = [(CONDITION, &[0, 1, 2, 3, 4]), (STATUS, &[0, 1, 2, 3, 4, 5])];
+/// The conditions of leases whose request has the cookie of a row that could be renewed.
+const RENEWABLE: &str = "condition, renewable";
+const DECISIONS: [(&str, &[u32]); 3] =
+    [(CONDITION, &[0, 1, 2, 3, 4]), (RENEWABLE, &[0, 1, 2, 3, 4]), (STATUS, &[0, 1, 2, 3, 4, 5])];
 
 /// The checks with which each kind of headroom comes; a free call that is done has none.
 const HEADROOMS: [(&str, &[u32]); 5] = [
@@ -37,10 +43,14 @@ pub struct Reached {
 }
 
 impl Reached {
-    pub fn count(&mut self, call: &Call, reason: &Reason) {
+    /// Counts the reason of a call on these tables.
+    pub fn count(&mut self, tables: &Tables, call: &Call, reason: &Reason) {
         self.checks.count(call.name(), reason.check);
         match reason.request {
-            LEASE => self.decisions.count(CONDITION, reason.condition),
+            LEASE => {
+                let renewable = Asked::new(&decoded(tables), call).and_then(|asked| asked.row_to_renew()).is_some();
+                self.decisions.count(if renewable { RENEWABLE } else { CONDITION }, reason.condition);
+            }
             ESTABLISH => self.decisions.count(STATUS, reason.condition),
             _ => {}
         }

@@ -1,6 +1,6 @@
 //! Calls to make: mostly such as the relay's state suggests, with ids and cookies that are in its tables.
 
-use codec::{encode, Message, DATA_LIMIT};
+use codec::{encode, Message, COOKIE_LENGTH, DATA_LIMIT};
 use engine::relay::{BUFFER, RANDOM};
 use model::{partner_of, Lease, Relay, State, Tables, BASE_COST, CONNECTIONS, TIME_LIMIT};
 
@@ -42,7 +42,7 @@ impl Calls<'_> {
     /// A call that suits the tables, one in three spoiled, in one thing or in several.
     pub fn any(&mut self, relay: &Relay, now: u64) -> Call {
         let connection = self.random.below(CONNECTIONS);
-        let data = if self.random.one_in(40) { LONG_DATA } else { SHORT_DATA };
+        let data = if self.random.one_in(20) { LONG_DATA } else { SHORT_DATA };
         let mut call = self.suitable(relay, now, connection, data);
         while self.random.one_in(3) {
             self.spoil(&mut call, relay.clock());
@@ -83,17 +83,23 @@ impl Calls<'_> {
         Some(Call { now, kind: message(sender, self.data(&lengths), self.any_random_bytes()) })
     }
 
+    /// The end of a connection that holds a lease of the partner.
+    pub fn cut(&mut self, relay: &Relay, now: u64, partner: usize) -> Option<Call> {
+        let holders: Vec<usize> = relay.live_rows(partner, now).filter_map(|(row, _)| relay.holder_of(row)).collect();
+        (!holders.is_empty()).then(|| Call { now, kind: close(self.random.choice(&holders)) })
+    }
+
     /// A message for an open connection.
     fn message(&mut self, relay: &Relay, connection: usize, data: &[usize]) -> Vec<u8> {
         let in_session = relay.in_session_with(connection).is_some();
-        match self.random.below(20) {
-            0..4 => vec![2, 0],
-            4 => [&[2, 1], &self.cookie(relay, connection)[..]].concat(),
-            5..8 => [&[4], &self.cookie(relay, connection)[..]].concat(),
-            8..13 => [&[6], &self.id(relay, connection).to_be_bytes()[..]].concat(),
-            13..17 if in_session || self.random.one_in(3) => self.data(data),
-            17 if in_session || self.random.one_in(3) => vec![9],
-            18 => vec![1, 1],
+        match self.random.below(24) {
+            0..3 => vec![2, 0],
+            3..8 => [&[2, 1], &self.old_cookie(relay, connection)[..]].concat(),
+            8..11 => [&[4], &self.held_cookie(relay, connection)[..]].concat(),
+            11..16 => [&[6], &self.id(relay, connection).to_be_bytes()[..]].concat(),
+            16..20 if in_session || self.random.one_in(3) => self.data(data),
+            20 if in_session || self.random.one_in(3) => vec![9],
+            21 => vec![1, 1],
             _ => vec![13],
         }
     }
@@ -103,12 +109,26 @@ impl Calls<'_> {
         [&[11], self.random.part(self.pool, length)].concat()
     }
 
-    /// A cookie: of a lease that the connection holds, of another of its partner, of anybody's, or a new one.
-    fn cookie(&mut self, relay: &Relay, connection: usize) -> Vec<u8> {
+    /// A cookie to ask for a lease with: mostly of a row of the connection's partner that has been used, or of any of
+    /// its rows, of anybody's, or a new one.
+    fn old_cookie(&mut self, relay: &Relay, connection: usize) -> Vec<u8> {
+        let own: Vec<&Lease> = relay.rows_of(partner_of(connection)).map(|(_, lease)| lease).collect();
+        let used: Vec<&Lease> = relay.leases.iter().filter(|lease| lease.expiry > 0).collect();
+        match self.random.below(8) {
+            0 => self.random.bytes(COOKIE_LENGTH),
+            1 if !used.is_empty() => self.random.choice(&used).cookie.to_vec(),
+            2 => self.random.choice(&own).cookie.to_vec(),
+            _ => self.row_near(relay, connection).cookie.to_vec(),
+        }
+    }
+
+    /// A cookie to extend a lease with: of one that the connection holds, of another of its partner, of anybody's, or a
+    /// new one.
+    fn held_cookie(&mut self, relay: &Relay, connection: usize) -> Vec<u8> {
         let held = relay.leases.iter().filter(|lease| usize::from(lease.holder) == connection);
         let held: Vec<&Lease> = held.collect();
         match self.random.below(4) {
-            0 => self.random.bytes(24),
+            0 => self.random.bytes(COOKIE_LENGTH),
             1 | 2 if !held.is_empty() => self.random.choice(&held).cookie.to_vec(),
             _ => self.row_near(relay, connection).cookie.to_vec(),
         }
@@ -135,22 +155,34 @@ impl Calls<'_> {
         }
     }
 
-    /// Random bytes for a lease: the cookie at times one in the tables; the candidates new, taken, or a mixture.
+    /// Random bytes for a lease: the cookie at times one in the tables; the candidates new, taken, or a mixture. At
+    /// times both repeat leases that have expired.
     fn random_bytes(&mut self, relay: &Relay, now: u64, connection: usize) -> Vec<u8> {
         let mut bytes = self.any_random_bytes();
-        if self.random.one_in(5) {
-            bytes[..24].copy_from_slice(&self.row_near(relay, connection).cookie);
+        let live = !self.random.one_in(4);
+        let used = relay.leases.iter().filter(|lease| lease.expiry > 0 && lease.is_live(now) == live);
+        let used: Vec<&Lease> = used.collect();
+        if !live && !used.is_empty() && self.random.one_in(2) {
+            bytes[..COOKIE_LENGTH].copy_from_slice(&self.random.choice(&used).cookie);
+        } else if self.random.one_in(5) {
+            bytes[..COOKIE_LENGTH].copy_from_slice(&self.row_near(relay, connection).cookie);
         }
-        let live: Vec<u32> = relay.leases.iter().filter(|lease| lease.is_live(now)).map(|lease| lease.id).collect();
-        let taken_in_ten = self.random.choice(&[0, 0, 9, 10]);
-        for candidate in bytes[24..].chunks_exact_mut(4) {
-            if !live.is_empty() && self.random.below(10) < taken_in_ten {
+        let known_in_ten = if live { self.random.choice(&[0, 0, 9, 10]) } else { 9 };
+        self.repeat_ids(&mut bytes[COOKIE_LENGTH..], &used, known_in_ten);
+        bytes
+    }
+
+    /// Makes so many in ten of the candidates ids of these leases, mostly such as a candidate can be.
+    fn repeat_ids(&mut self, candidates: &mut [u8], leases: &[&Lease], in_ten: usize) {
+        let limit = self.random.mostly(1 << 26, &[u32::MAX]);
+        let ids: Vec<u32> = leases.iter().map(|lease| lease.id).filter(|&id| id < limit).collect();
+        for candidate in candidates.chunks_exact_mut(4) {
+            if !ids.is_empty() && self.random.below(10) < in_ten {
                 // The same id with other high bits, which are cut off.
-                let id = self.random.choice(&live) | self.random.choice(&[0, 1 << 26, 63 << 26]);
+                let id = self.random.choice(&ids) | self.random.choice(&[0, 1 << 26, 63 << 26]);
                 candidate.copy_from_slice(&id.to_be_bytes());
             }
         }
-        bytes
     }
 
     fn any_random_bytes(&mut self) -> Vec<u8> {

@@ -3,6 +3,7 @@
 pub mod agree;
 pub mod boundary;
 pub mod calls;
+pub mod leases;
 pub mod monitor;
 pub mod reached;
 pub mod runs;

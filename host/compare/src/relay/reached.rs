@@ -2,30 +2,18 @@
 
 use std::fmt;
 
-use model::{Offer, RandomBytes, Relay, Request, Tables, PARTNERS};
+use model::{Relay, Request, Tables, PARTNERS};
 
 use super::agree::Outcome;
 use super::boundary::{Call, Kind};
+use super::leases::{self, Asked, LastHolders};
 use crate::tally::Tally;
-
-/// The conditions of a lease in the scope's order, under which a refusal is counted if it is the only one that fails.
-const LEASE_CONDITIONS: [&str; 4] =
-    ["lease: holds one already", "lease: no row left", "lease: cookie is taken", "lease: no id is free"];
 
 /// The name under which each status of an establish request is counted.
 const STATUS: &str = "establish status";
 
-/// Effects that every comparison must have reached, beside the establish statuses and the answers.
-const EFFECTS: [&str; 23] = [
-    LEASE_CONDITIONS[0],
-    LEASE_CONDITIONS[1],
-    LEASE_CONDITIONS[2],
-    LEASE_CONDITIONS[3],
-    "lease: several of these",
-    "lease: granted, new row",
-    "lease: granted, used row",
-    "lease: first candidate",
-    "lease: later candidate",
+/// Effects that every comparison must have reached, beside the establish statuses, the leases and the answers.
+const EFFECTS: [&str; 14] = [
     "extended",
     "not extended",
     "version accepted",
@@ -60,14 +48,21 @@ impl Reached {
         }
     }
 
-    /// Asserts that each function had just these answers, and that all effects were reached.
-    pub fn assert_all(&self, answers: &[(&str, &[u32])]) {
+    /// Counts a lease request of a run, if the call is one, by who held the row last.
+    pub fn count_return(&mut self, relay: &Relay, call: &Call, outcome: &Outcome, last: &LastHolders) {
+        if let Some(asked) = Asked::new(relay, call) {
+            asked.count_return(&mut self.effects, last, outcome);
+        }
+    }
+
+    /// Asserts that each function had just these answers, and that all effects were reached, these among them.
+    pub fn assert_all(&self, answers: &[(&str, &[u32])], further: &[&str]) {
         println!("{self}");
         self.answers.assert_just(answers);
         for status in 0..=5 {
             self.effects.assert_reached(STATUS, status, true);
         }
-        for name in EFFECTS {
+        for name in EFFECTS.iter().chain(&leases::EVERYWHERE).chain(further) {
             self.effects.assert_reached(name, 0, true);
         }
     }
@@ -83,12 +78,10 @@ impl fmt::Display for Reached {
 
 fn count_effects(effects: &mut Tally, relay: &Relay, call: &Call, caller: usize, outcome: &Outcome) {
     match &call.kind {
-        Kind::Message { message, random, .. } => {
-            let request = Request::decode(message).expect("an accepted message");
-            let random = RandomBytes::new(random).expect("an accepted call");
-            count_request(effects, request, outcome);
-            if request == Request::Lease {
-                count_lease(effects, relay, caller, random, call.now);
+        Kind::Message { message, .. } => {
+            count_request(effects, Request::decode(message).expect("an accepted message"), outcome);
+            if let Some(asked) = Asked::new(relay, call) {
+                asked.count(effects);
             }
         }
         Kind::Close { .. } => count_close(effects, relay, caller, outcome),
@@ -103,7 +96,7 @@ fn count_effects(effects: &mut Tally, relay: &Relay, call: &Call, caller: usize,
 fn count_request(effects: &mut Tally, request: Request, outcome: &Outcome) {
     let reply = outcome.reply();
     let name = match request {
-        Request::Lease => return,
+        Request::Lease { .. } => return,
         Request::Establish { .. } => return effects.count(STATUS, reply[5].into()),
         Request::VersionAnswer { .. } if outcome.answer.disconnect == 1 => "version refused, disconnect",
         Request::VersionAnswer { .. } => "version accepted",
@@ -115,23 +108,6 @@ fn count_request(effects: &mut Tally, request: Request, outcome: &Outcome) {
         Request::Keepalive => "keepalive",
     };
     effects.count(name, 0);
-}
-
-fn count_lease(effects: &mut Tally, relay: &Relay, caller: usize, random: RandomBytes, now: u64) {
-    let offer = relay.offer(caller, random, now);
-    let failed: Vec<_> = offer.failed().collect();
-    match failed[..] {
-        [] => count_grant(effects, relay, offer, random),
-        [condition] => effects.count(LEASE_CONDITIONS[condition as usize - 1], 0),
-        _ => effects.count("lease: several of these", 0),
-    }
-}
-
-fn count_grant(effects: &mut Tally, relay: &Relay, offer: Offer, random: RandomBytes) {
-    let used = offer.row.is_some_and(|row| relay.leases[row].expiry > 0);
-    effects.count(if used { "lease: granted, used row" } else { "lease: granted, new row" }, 0);
-    let first = random.candidates().next() == offer.id;
-    effects.count(if first { "lease: first candidate" } else { "lease: later candidate" }, 0);
 }
 
 fn count_close(effects: &mut Tally, relay: &Relay, caller: usize, outcome: &Outcome) {

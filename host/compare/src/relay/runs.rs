@@ -1,5 +1,7 @@
 //! Runs: a fresh start, and then calls one after the other on the tables that it left.
 
+use std::collections::HashSet;
+
 use engine::relay::{ALLOWANCES, CONNECTIONS, LEASES};
 use model::{Relay, Tables, PARTNERS, TIME_LIMIT};
 
@@ -25,6 +27,8 @@ pub struct Run {
     clock: Clock,
     /// A partner that makes half of all calls, with much data.
     flooding: Option<usize>,
+    /// Whether holders of leases often lose their connections, so that the leases are left to who comes back.
+    power_cuts: bool,
     /// So many partners, from the first, make calls; the fewer, the more each has of them.
     partners: usize,
 }
@@ -35,8 +39,9 @@ impl Run {
         let partners = random.choice(&[1, 2, PARTNERS]);
         Self {
             start: random.choice(&[0, 1, 100, 1 << 32, TIME_LIMIT - 8_000, TIME_LIMIT - 50]),
-            clock: random.choice(&[Clock::Stands, Clock::Creeps, Clock::Steps, Clock::Jumps]),
+            clock: random.choice(&[Clock::Stands, Clock::Creeps, Clock::Steps, Clock::Jumps, Clock::Jumps]),
             flooding: (!random.one_in(3)).then(|| random.below(partners)),
+            power_cuts: random.one_in(3),
             partners,
         }
     }
@@ -55,7 +60,8 @@ impl Run {
             Some(partner) if calls.random.one_in(2) => self.flooding_call(calls, relay, now, partner),
             _ => {
                 let partner = calls.random.below(self.partners);
-                any_call_of(calls, relay, now, partner, SHORT_DATA)
+                let cut = (self.power_cuts && calls.random.one_in(6)).then(|| calls.cut(relay, now, partner));
+                cut.flatten().unwrap_or_else(|| any_call_of(calls, relay, now, partner, SHORT_DATA))
             }
         };
         while calls.random.one_in(6) {
@@ -76,7 +82,7 @@ impl Run {
             Clock::Stands => 0,
             Clock::Creeps => random.one_in(12).into(),
             Clock::Steps => random.choice(&[0, 0, 0, 1, 2, 3]),
-            Clock::Jumps if random.one_in(60) => random.choice(&[1, 60, 1_800, 3_599, 3_600, 3_601]),
+            Clock::Jumps if random.one_in(50) => random.choice(&[1, 60, 1_800, 3_599, 3_600, 3_601]),
             Clock::Jumps => 0,
         };
         (clock + step).min(TIME_LIMIT - 1)
@@ -106,6 +112,13 @@ pub fn follow(subject: &impl Boundary, calls: &mut Calls, length: usize) -> Resu
         monitor.check_levels(&decoded(&lent.tables()))?;
     }
     Ok(())
+}
+
+/// An id that two live rows have: no run may come to that.
+pub fn doubled_id(relay: &Relay) -> Option<u32> {
+    let live = relay.leases.iter().filter(|lease| lease.is_live(relay.clock()));
+    let mut ids = HashSet::new();
+    live.map(|lease| lease.id).find(|&id| !ids.insert(id))
 }
 
 /// The tables of a run as records.

@@ -39,7 +39,8 @@ fn nearly_valid(random: &mut Random, now: u64) -> Tables {
         name_each_other(random, &mut connections);
     }
     let cookies: [Vec<u8>; 4] = [0, 1, 2, 3].map(|_| random.bytes(24));
-    let leases = (0..PARTNERS).flat_map(|partner| leases_of(random, partner, now, &cookies)).collect();
+    let mut leases: Vec<u8> = (0..PARTNERS).flat_map(|partner| leases_of(random, partner, now, &cookies)).collect();
+    repeat_ids(random, &mut leases);
     let allowances = (0..=PARTNERS).flat_map(|_| allowance(random, now)).collect();
     Tables { connections, leases, allowances }
 }
@@ -72,15 +73,18 @@ fn connection_near(random: &mut Random, partner: usize) -> u8 {
     (partner * 8 + random.below(8)) as u8
 }
 
-/// The partner's rows: none live, some, most or all.
+/// The partner's rows: none live, some, most or all; and of the others none that was never leased, some or all.
 fn leases_of(random: &mut Random, partner: usize, now: u64, cookies: &[Vec<u8>]) -> Vec<u8> {
     let live_percent = random.choice(&[0, 50, 90, 100]);
+    let never_leased_percent = random.choice(&[0, 0, 30, 100]);
     let mut rows = Vec::new();
     for _ in 0..LEASES / PARTNERS {
         let live = random.below(100) < live_percent;
-        rows.extend(expiry(random, now, live).to_be_bytes());
-        // Half of them stand in one row alone, so that overlooking this row shows.
-        let id = if random.one_in(2) { random.number() as u32 >> 6 } else { random.choice(&IDS) };
+        let never_leased = random.below(100) < never_leased_percent;
+        rows.extend(expiry(random, now, live, never_leased).to_be_bytes());
+        // Half of them stand in one row alone, so that overlooking this row shows; some are not below 2^26.
+        let unused_bits = random.choice(&[0, 6, 6, 6]);
+        let id = if random.one_in(2) { random.number() as u32 >> unused_bits } else { random.choice(&IDS) };
         rows.extend(id.to_be_bytes());
         rows.push(match random.below(4) {
             0 => 255,
@@ -96,11 +100,27 @@ fn leases_of(random: &mut Random, partner: usize, now: u64, cookies: &[Vec<u8>])
     rows
 }
 
-fn expiry(random: &mut Random, now: u64, live: bool) -> u64 {
+/// An expiry, mostly near the time; of rows that aren't live several have the same.
+fn expiry(random: &mut Random, now: u64, live: bool, never_leased: bool) -> u64 {
     if live {
         random.choice(&[now.saturating_add(1), now.saturating_add(3_600), TIME_LIMIT + 3_600, u64::MAX])
+    } else if never_leased {
+        0
     } else {
-        random.choice(&[0, now.saturating_sub(1), now, now])
+        random.choice(&[now, now, now.saturating_sub(1), now.saturating_sub(3_600), now / 2])
+    }
+}
+
+/// Gives rows, some or many, the id of another one, half of these of the same partner. So there are ids that just two
+/// rows have.
+fn repeat_ids(random: &mut Random, leases: &mut [u8]) {
+    let each = LEASES / PARTNERS;
+    for _ in 0..random.below(LEASES / 2) {
+        let one = random.below(LEASES);
+        let partner = if random.one_in(2) { random.below(PARTNERS) } else { one / each };
+        let other = partner * each + random.below(each);
+        let id = one * LEASE_LENGTH + 8..one * LEASE_LENGTH + 12;
+        leases.copy_within(id, other * LEASE_LENGTH + 8);
     }
 }
 

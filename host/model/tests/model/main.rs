@@ -1,5 +1,6 @@
 //! The second relay, on the papers' examples.
 
 mod reasons;
+mod renewals;
 mod support;
 mod worked_examples;

@@ -59,14 +59,15 @@ fn the_level_is_the_refilled_one() {
 }
 
 /// Connections 0 and 1 are open. So many rows of their partner are live, all with the cookie of the random bytes, the
-/// first held by 0. Every candidate is live too, the first one here and the others under another partner.
+/// first held by 0 and the others renewable. Every candidate is live too, the first one here and the others under
+/// another partner.
 fn relay_with_live_rows(rows: usize) -> Tables {
     let mut relay = Relay::fresh(100);
     for connection in [0, 1] {
         relay.connections[connection].set_state(State::Open);
     }
-    for lease in &mut relay.leases[..rows] {
-        (lease.expiry, lease.id, lease.cookie) = (101, 1, [9; 24]);
+    for (lease, id) in relay.leases[..rows].iter_mut().zip(1..) {
+        (lease.expiry, lease.id, lease.cookie) = (101, id, [9; 24]);
     }
     relay.leases[0].holder = 0;
     (relay.leases[127].expiry, relay.leases[127].id) = (101, 0x0109_0909);
@@ -94,15 +95,20 @@ fn the_first_condition_of_a_lease_that_fails() {
         (15, 1, RANDOM, Some(Condition::CookieIsNew)),
         (1, 1, RANDOM, Some(Condition::CookieIsNew)),
         (1, 1, new_cookie(), Some(Condition::FreeId)),
+        (2, 1, new_cookie(), Some(Condition::FreeId)),
         (1, 1, last_candidate_free, None),
+        (2, 1, last_candidate_free, None),
         (0, 0, RANDOM, None),
     ];
+    let with_cookie = [&[2, 1], &[9; 24][..]].concat();
     for (rows, caller, random, failed) in cases {
         let tables = relay_with_live_rows(rows);
-        let reason = reasons::message(&tables, 100, caller, LEASE_REQUEST, &random, 64, 64);
-        assert_eq!(reason, Reason { outcome: Outcome::Lease { failed }, headroom: Some(262_110) });
         let number = failed.map_or(0, |condition| condition as u32);
-        assert_eq!(reason.numbers(), ([0, 1, number, 1], 262_110));
+        let reason = |request: &[u8]| reasons::message(&tables, 100, caller, request, &random, 64, 64);
+        assert_eq!(reason(LEASE_REQUEST).outcome, Outcome::Lease { failed });
+        assert_eq!(reason(LEASE_REQUEST).numbers(), ([0, 1, number, 1], 262_110));
+        // "decided as in 01, cookie or not"
+        assert_eq!(reason(&with_cookie).numbers(), ([0, 1, number, 1], 262_086));
     }
 }
 
