@@ -19,22 +19,21 @@ pub fn grant(leases: &mut [u8], row: usize, until: u64, id: u32, cookie: &[u8], 
     octet_stores::copy(leases, at + rules::COOKIE_AT, cookie);
 }
 
-// Writes who holds a renewed lease, and when it ends; its id, its cookie and bytes 13 to 15 stay.
-pub fn renew(leases: &mut [u8], row: usize, until: u64, c: u8)
-    requires { ⌜ row < rowCount ⌝ }
-    ensures { λ _. ⌜ now (leases .exit) ≡ renew (now (leases .entry)) row until c ⌝ }
-{
-    let at = rules::LEASE_BYTES * row;
-    octet_stores::write64(leases, at, until);
-    octet_stores::write8(leases, at + rules::HOLDER_AT, c);
-}
-
 // Writes when a lease ends.
 pub fn extend(leases: &mut [u8], row: usize, until: u64)
     requires { ⌜ row < rowCount ⌝ }
     ensures { λ _. ⌜ now (leases .exit) ≡ setExpiry (now (leases .entry)) row until ⌝ }
 {
     octet_stores::write64(leases, rules::LEASE_BYTES * row, until);
+}
+
+// Writes when a renewed lease ends, and who holds it; its id, its cookie and bytes 13 to 15 stay.
+pub fn renew(leases: &mut [u8], row: usize, until: u64, c: u8)
+    requires { ⌜ row < rowCount ⌝ }
+    ensures { λ _. ⌜ now (leases .exit) ≡ renew (now (leases .entry)) row until c ⌝ }
+{
+    extend(leases, row, until);
+    octet_stores::write8(leases, rules::LEASE_BYTES * row + rules::HOLDER_AT, c);
 }
 
 // Takes a connection off a row, if it is the holder.

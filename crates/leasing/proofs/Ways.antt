@@ -8,20 +8,21 @@ use types.Run.{OneOf, miss}
 use denote.Enum.Declared.{tagOf}
 use native.Mathlib.Omega.{arith}
 use lib.ListN.{length, getD, length-append}
-use borrow.Author.Tests.{lt-ltb, le-ltb}
+use borrow.Author.Tests.{lt-ltb, le-ltb, eq-eqb}
 use Rattle.octets.specs.Octets.{part, put, isBytes}
+use Rattle.octets.proofs.Tests.{bytes-known}
 use Rattle.octets.proofs.Numbers.{length-bigEndian}
+use Rattle.octets.proofs.Parts.{length-part}
 use Rattle.svsc.specs.Messages.{LeaseRefused, LeaseGranted, ExtensionRefused, ExtensionGranted, encode, wellFormed}
 use Rattle.rules.specs.Sizes.{rowCount, leasesSize, timeLimit}
 use Rattle.rules.specs.Tables.{lent, partnerOf, idOf, cookieAt, cookieOf, setExpiry}
 use Rattle.rules.specs.Searches.{endRow}
 use Rattle.rules.specs.Leases.{renewed, granted, randomCookie, leaseEnd, decideLease, grant, renew, rowToExtend}
-use Rattle.rules.specs.Plans.{planLease, planExtension, refuseLease}
+use Rattle.rules.specs.Plans.{replyOnly, planLease, planExtension, refuseLease}
 use Rattle.leases.proofs.LeaseDecision.{the-type}
 use Rattle.leases.specs.Leases.{meaning}
 use Rattle.leases.specs.declared.LeaseDecision.the-variants as decided
 use Rattle.answers.specs.declared.Answer.{Answer}
-use Rattle.answers.proofs.Writes.{part-bytes}
 use Rattle.answers.specs.Applied.{Handled, handled, applied, coded, replied}
 
 -- ---- ranges and lengths
@@ -34,9 +35,13 @@ pub lease-ranges : (id : ℕ) (cookie : List ℕ) (until : ℕ) → id < 2 ^ 32 
 unfolding wellFormed
 lease-ranges id cookie until hi hc hu = rw (lt-ltb id (2 ^ 32) hi, lt-ltb until (2 ^ 64) hu, hc)
 
-pub row-cookie : (ls : List ℕ) (row : ℕ) → ((i : ℕ) → getD ls i 0 < 256) → length ls ≡ leasesSize → row < rowCount → isBytes 24 (cookieOf ls row) ≡ true
+pub cookie-bytes : (cookie : List ℕ) → ((i : ℕ) → getD cookie i 0 < 256) → length cookie ≡ 24 → isBytes 24 cookie ≡ true
+unfolding isBytes
+cookie-bytes cookie bytes size = rw (eq-eqb (length cookie) 24 size, bytes-known cookie (λ i l. bytes i))
+
+pub cookie-length : (ls : List ℕ) (row : ℕ) → length ls ≡ leasesSize → row < rowCount → length (cookieOf ls row) ≡ 24
 unfolding cookieOf
-row-cookie ls row bytes size h = part-bytes ls (cookieAt row) 24 bytes (omega arith)
+cookie-length ls row size h = length-part ls (cookieAt row) 24 (omega arith)
 
 pub lease-length : (id : ℕ) (cookie : List ℕ) (until : ℕ) → length cookie ≡ 24 → length (encode (LeaseGranted id cookie until)) ≡ 38
 unfolding encode
@@ -53,19 +58,23 @@ extension-length until = simp length-bigEndian
 -- ---- the ways out
 
 module _ (cs ls al reply relay : List ℕ) (time c : ℕ) where
-  pub lease-given : (row id : ℕ) (random : List ℕ) (until n : ℕ) (cookie ls′ reply′ : List ℕ) (r : Answer) → until ≡ leaseEnd al time → cookie ≡ part random 0 24
-      → ls′ ≡ grant ls row until id cookie c → n ≡ length (encode (LeaseGranted id cookie until)) → reply′ ≡ put reply 0 (encode (LeaseGranted id cookie until))
-      → r ≡ coded (replied n)
-      → handled r cs ls′ reply′ relay ≡ applied (planLease (lent cs ls al) time c (granted row id (randomCookie random))) reply relay
-  unfolding applied planLease put
-  lease-given row id random until n cookie ls′ reply′ r hu hc hl hn hr a = rw (a, hr, hn, hl, hc, hu)
+  pub lease-told : (id until n : ℕ) (cookie reply′ : List ℕ) (r : Answer) → n ≡ length (encode (LeaseGranted id cookie until))
+      → reply′ ≡ put reply 0 (encode (LeaseGranted id cookie until)) → r ≡ coded (replied n)
+      → handled r cs ls reply′ relay ≡ applied (replyOnly cs ls (encode (LeaseGranted id cookie until))) reply relay
+  unfolding applied put
+  lease-told id until n cookie reply′ r hn hr a = rw (a, hr, hn)
 
-  pub lease-renewed : (row until id n : ℕ) (cookie ls′ reply′ : List ℕ) (r : Answer) → until ≡ leaseEnd al time → id ≡ idOf ls row → cookie ≡ cookieOf ls row
-      → ls′ ≡ renew ls row until c → n ≡ length (encode (LeaseGranted id cookie until)) → reply′ ≡ put reply 0 (encode (LeaseGranted id cookie until))
-      → r ≡ coded (replied n)
-      → handled r cs ls′ reply′ relay ≡ applied (planLease (lent cs ls al) time c (renewed row)) reply relay
-  unfolding applied planLease put
-  lease-renewed row until id n cookie ls′ reply′ r hu hi hc hl hn hr a = rw (a, hr, hn, hl, hc, hi, hu)
+  -- what is told of a row that is written
+  module _ (row until id : ℕ) (cookie : List ℕ) {ls′ : List ℕ} (x : Handled) (end : until ≡ leaseEnd al time) (told : x ≡ applied (replyOnly cs ls′ (encode (LeaseGranted id cookie until))) reply relay) where
+    pub lease-given : (random : List ℕ) → cookie ≡ part random 0 24 → ls′ ≡ grant ls row until id cookie c
+        → x ≡ applied (planLease (lent cs ls al) time c (granted row id (randomCookie random))) reply relay
+    unfolding planLease
+    lease-given random given written = told ∙ rw (written, given, end)
+
+    pub lease-renewed : id ≡ idOf ls row → cookie ≡ cookieOf ls row → ls′ ≡ renew ls row until c
+        → x ≡ applied (planLease (lent cs ls al) time c (renewed row)) reply relay
+    unfolding planLease
+    lease-renewed same-id same-cookie written = told ∙ rw (written, same-cookie, same-id, end)
 
   pub lease-refused : (n : ℕ) (reply′ : List ℕ) (r : Answer) → n ≡ length (encode LeaseRefused) → reply′ ≡ put reply 0 (encode LeaseRefused)
       → r ≡ coded (replied n) → handled r cs ls reply′ relay ≡ applied (refuseLease (lent cs ls al)) reply relay

@@ -8,13 +8,24 @@ ghost use Rattle.octets.specs.Octets.{part};
 ghost use Rattle.rules.specs.Tables.{lent};
 ghost use Rattle.rules.specs.Sizes.{rowCount, randomBytes, leastBuffer};
 ghost use Rattle.rules.specs.Leases.{renewed, granted, randomCookie, decideLease};
-ghost use Rattle.rules.specs.Plans.{planLease, planExtension, refuseLease};
+ghost use Rattle.rules.specs.Plans.{replyOnly, planLease, planExtension, refuseLease};
+ghost use Rattle.svsc.specs.Messages.{LeaseGranted, encode};
 ghost use Rattle.answers.specs.Applied.{handled, applied};
 ghost use Rattle.leasing.specs.Asked.{Leasable};
 use answers::Answer;
 use leases::LeaseDecision;
 
-// Writes the row that was decided on, and answers with it.
+// Answers with a lease.
+fn tell(reply: &mut [u8], id: u32, cookie: &[u8], until: u64) -> Answer
+    requires { ⌜ (leastBuffer ≤ length (now reply)) × (length (now cookie) ≡ 24) ⌝ }
+    ensures { λ r. ⌜ ((cs ls relay : List ℕ) → handled r cs ls (now (reply .exit)) relay
+        ≡ applied (replyOnly cs ls (encode (LeaseGranted id (now (cookie .entry)) until))) (now (reply .entry)) relay) ⌝ }
+{
+    let sent = svsc_lease_writers::svsc_write_lease_granted(reply, id, cookie, until);
+    answers::replied(sent.length as u32)
+}
+
+// Writes a new lease to the row that was decided on, and answers with it.
 fn grant(
     leases: &mut [u8],
     allowances: &[u8],
@@ -33,8 +44,7 @@ fn grant(
     let until = leases::lease_end(allowances, time);
     let cookie = octets::part(random, 0, svsc::COOKIE);
     lease_writes::grant(leases, row, until, id, cookie, c);
-    let sent = svsc_lease_writers::svsc_write_lease_granted(reply, id, cookie, until);
-    answers::replied(sent.length as u32)
+    tell(reply, id, cookie, until)
 }
 
 // Writes the row that is renewed, and answers with the id and the cookie that it has.
@@ -52,10 +62,9 @@ fn renew(
 {
     let until = leases::lease_end(allowances, time);
     let id = lease_table::id_of(leases, row);
-    let cookie = lease_table::cookie_of(leases, row);
-    let sent = svsc_lease_writers::svsc_write_lease_granted(reply, id, cookie, until);
+    let answer = tell(reply, id, lease_table::cookie_of(leases, row), until);
     lease_writes::renew(leases, row, until, c);
-    answers::replied(sent.length as u32)
+    answer
 }
 
 fn refuse(reply: &mut [u8]) -> Answer
