@@ -1,1 +1,2 @@
 pub mod RowSearch
+pub mod LiveRows

@@ -22,14 +22,14 @@ fn passes(leases: &[u8], time: u64, sought: Sought, cookie: &[u8], row: usize) -
     requires { ⌜ (length (now leases) ≡ leasesSize) × (row < rowCount) ⌝ }
     ensures { λ r. ⌜ r ≡ passes sought (now (leases .entry)) time (now (cookie .entry)) row ⌝ }
 {
-    let live = lease_table::is_live(leases, time, row);
+    if !lease_table::is_live(leases, time, row) {
+        return false;
+    }
     match sought {
-        Sought::HeldBy(c) => live & (lease_table::holder(leases, row) == c),
-        Sought::WithId(id) => live & (lease_table::id_of(leases, row) == id),
-        Sought::WithCookie => live
-            & octet_comparisons::equal(lease_table::cookie_of(leases, row), cookie),
-        Sought::OwnWithCookie(c) => live
-            & (lease_table::holder(leases, row) == c)
+        Sought::HeldBy(c) => lease_table::holder(leases, row) == c,
+        Sought::WithId(id) => lease_table::id_of(leases, row) == id,
+        Sought::WithCookie => octet_comparisons::equal(lease_table::cookie_of(leases, row), cookie),
+        Sought::OwnWithCookie(c) => (lease_table::holder(leases, row) == c)
             & octet_comparisons::equal(lease_table::cookie_of(leases, row), cookie),
     }
 }

@@ -1,15 +1,32 @@
 -- The ways out of the test whether a row is renewable, over plain values: one for each part of the sentence that fails, and the last part.
 -- Assumes nothing.
 use Prim.Native.Nat.{ℕ, _<_}
-use mathlib.Core.Path.{_≡_}
+use mathlib.Core.Path.{_≡_, sym, _∙_}
 use mathlib.Core.Bool.{Bool, true, false, not, _&&_}
 use mathlib.Core.List.{List}
 use native.Mathlib.Omega.{arith}
 use lib.Dec.{ltb}
+use lib.ListN.{length}
 use borrow.Author.Tests.{lt-ltb, not-true, not-false}
-use Rattle.octets.specs.Octets.{same}
-use Rattle.rules.specs.Tables.{expiry, cookieOf, live, holderCounts}
-use Rattle.rules.specs.Leases.{idElsewhere, renewable}
+use Rattle.octets.specs.Octets.{part, same}
+use Rattle.octets.proofs.Parts.{length-part}
+use Rattle.octets.proofs.Equality.{same-length}
+use Rattle.svsc.specs.Messages.{cookieBytes}
+use Rattle.rules.specs.Sizes.{partners, rowsPerPartner, rowCount, leasesSize}
+use Rattle.rules.specs.Searches.{firstRow, endRow}
+use Rattle.rules.specs.Tables.{cookieAt, expiry, cookieOf, live, holderCounts}
+use Rattle.rules.specs.Leases.{idElsewhere, renewable, rowToRenew}
+use Rattle.rules.proofs.Searches.{first-none}
+
+-- A cookie of another length renews no row.
+pub no-cookie : (cs ls : List ℕ) (now p : ℕ) (cookie : List ℕ) {end : ℕ} → length ls ≡ leasesSize → p < partners → end ≡ endRow p
+    → (length cookie ≡ 24 → ⊥) → end ≡ rowToRenew cs ls now p cookie
+unfolding rowToRenew renewable cookieOf
+no-cookie cs ls now p cookie size p< last n =
+    last ∙ sym (first-none (renewable cs ls now cookie) (firstRow p) rowsPerPartner (λ r l u. rw (differ r (omega arith))))
+  where
+    differ : (r : ℕ) → r < rowCount → same (part ls (cookieAt r) cookieBytes) cookie ≡ false
+    differ r h = same-length _ cookie (λ e. n (sym e ∙ length-part ls (cookieAt r) cookieBytes (omega arith)))
 
 -- k is the row's cookie, and alike, until, held and elsewhere are what the code's tests answer, in their order
 module _

@@ -48,7 +48,7 @@ fn is_renewable(connections: &[u8], leases: &[u8], time: u64, cookie: &[u8], row
     !id_elsewhere(leases, time, row)
 }
 
-// The partner's lowest row that may be renewed by this cookie, or the end of its rows.
+// The partner's lowest row that may be renewed by this cookie, or the end of its rows. A request without a cookie needs no search.
 pub fn row_to_renew(
     connections: &[u8],
     leases: &[u8],
@@ -60,6 +60,9 @@ pub fn row_to_renew(
     ensures { λ r. ⌜ r ≡ rowToRenew (now (connections .entry)) (now (leases .entry)) time partner (now (cookie .entry)) ⌝ }
 {
     let end = lease_table::end_row(partner);
+    if cookie.len() != svsc::COOKIE {
+        return end;
+    }
     for row in rules::ROWS_PER_PARTNER * partner..end {
         if is_renewable(connections, leases, time, cookie, row) {
             return row;

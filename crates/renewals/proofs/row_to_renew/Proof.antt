@@ -4,6 +4,7 @@ use mathlib.Core.Path.{_≡_, sym, _∙_}
 use Rattle.rules.specs.Searches.{firstFrom}
 use Rattle.rules.specs.Leases.{renewable, rowToRenew}
 use Rattle.lease_search.proofs.RowSearch.{own-start, first-hit, first-miss, first-none}
+use Rattle.renewals.proofs.Ways.{no-cookie}
 use borrow.Author.Needs.{needs}
 use native.Mathlib.Omega.{arith}
 use Rattle.renewals.proofs.row_to_renew.Statement.{statement}
@@ -19,20 +20,26 @@ abbrev μ-loop : tie.MeasureT-loop
 end-row-requires : tie.Need-end-row-requires Inv-loop μ-loop
 end-row-requires c κs = search needs
 
+returns : tie.Need-returns Inv-loop μ-loop
+returns c =
+    let s = c .before .before .before .before .before in
+    let a = s .args in
+    no-cookie (a .connections .now) (a .leases .now) (a .time) (a .partner) (a .cookie .now) (s .pre .0) (s .pre .1) (c .before .end-row .ensures) (c .if1 .taken)
+
 mul-row : tie.Need-mul-row Inv-loop μ-loop
 mul-row c = search needs
 
 loop-holds : tie.Need-loop-holds Inv-loop μ-loop
 unfolding rowToRenew
-loop-holds c = (omega arith, own-start _ _ (c .end-row .ensures))
+loop-holds c = (omega arith, own-start _ _ (c .before .end-row .ensures))
 
 is-renewable-requires : tie.Need-is-renewable-requires Inv-loop μ-loop
 is-renewable-requires c κs = search needs
 
-returns : tie.Need-returns Inv-loop μ-loop
-returns c =
+returns-2 : tie.Need-returns-2 Inv-loop μ-loop
+returns-2 c =
     let l = c .before .before .before .loop in
-    sym (l .inv .1 ∙ first-hit _ _ (c .before .before .loop-test .taken) (c .before .is-renewable .ensures) (c .if1 .taken))
+    sym (l .inv .1 ∙ first-hit _ _ (c .before .before .loop-test .taken) (c .before .is-renewable .ensures) (c .if2 .taken))
 
 add-row : tie.Need-add-row Inv-loop μ-loop
 add-row c = search needs
@@ -43,10 +50,10 @@ loop-less c = search needs
 loop-again : tie.Need-loop-again Inv-loop μ-loop
 loop-again c =
     let l = c .before .before .before .loop in
-    (omega arith, l .inv .1 ∙ first-miss _ _ (c .before .before .loop-test .taken) (c .before .is-renewable .ensures) (c .if1 .left))
+    (omega arith, l .inv .1 ∙ first-miss _ _ (c .before .before .loop-test .taken) (c .before .is-renewable .ensures) (c .if2 .left))
 
-returns-2 : tie.Need-returns-2 Inv-loop μ-loop
-returns-2 c =
+returns-3 : tie.Need-returns-3 Inv-loop μ-loop
+returns-3 c =
     let l = c .before .loop in
     sym (l .inv .1 ∙ first-none _ _ (l .inv .0) (c .loop-test .left))
 
@@ -57,11 +64,12 @@ row-to-renew-spec =
     Inv-loop
     μ-loop
     end-row-requires
+    returns
     mul-row
     loop-holds
     is-renewable-requires
-    returns
+    returns-2
     add-row
     loop-less
     loop-again
-    returns-2)
+    returns-3)
