@@ -1,5 +1,7 @@
 //! Leases: new ones, renewed ones, and those with the longest searches.
 
+use std::ops::Range;
+
 use codec::{Message, COOKIE_LENGTH};
 use engine::relay::{BUFFER, NOBODY};
 use server::{CONNECTIONS_EACH, PARTNERS};
@@ -28,25 +30,31 @@ const NEW: &[u8] = &[3, 1, 0, 0, 0, FREE as u8];
 const RENEWED: &[u8] = &[3, 1, 0, 0, 0, KEPT as u8];
 
 pub fn all() -> Option<Vec<Case>> {
-    let mut cases = vec![lease("lease, first candidate free", 0)?, thirteen_taken()?];
-    cases.extend([earliest_last("lease, its row the last of sixteen", 0)?, renewed()?]);
-    cases.extend(longest()?);
-    cases.push(extension()?);
-    Some(cases)
-}
-
-/// The longest search for an id.
-pub fn thirteen_taken() -> Option<Case> {
-    lease("lease, thirteen candidates taken", TAKEN)
-}
-
-/// Thirteen candidates taken, and beside that the longest searches for a row: of a new lease, and of one to renew.
-pub fn longest() -> Option<Vec<Case>> {
     Some(vec![
-        earliest_last("lease, thirteen taken, its row the last of sixteen", TAKEN)?,
+        lease("lease, first candidate free", 0)?,
+        thirteen_taken()?,
+        earliest_last(0)?,
+        earliest_last(TAKEN)?,
+        others_live(false)?,
+        renewed()?,
         last_renewable()?,
-        none_renewable()?,
+        others_live(true)?,
+        extension()?,
     ])
+}
+
+/// What adds to the longest search for an id, each with a lease that hasn't got it: the search for the row of a new lease, and
+/// for one to renew.
+pub fn longest() -> Option<[(Case, Case); 3]> {
+    Some([
+        (earliest_last(TAKEN)?, thirteen_taken()?),
+        (last_renewable()?, thirteen_taken()?),
+        (others_live(true)?, others_live(false)?),
+    ])
+}
+
+fn thirteen_taken() -> Option<Case> {
+    lease("lease, thirteen candidates taken", TAKEN)
 }
 
 /// A lease, with so many candidates before the free one. All others are ids of a neighbour's leases.
@@ -57,12 +65,16 @@ fn lease(what: &'static str, taken: usize) -> Option<Case> {
 
 /// All rows of the partner have had a lease, and the lower the row the later it ended, so that the last one is taken. That
 /// one's lease then ends last of all, and the row before it is the next: the order stays, from another row on.
-fn earliest_last(what: &'static str, taken: usize) -> Option<Case> {
+fn earliest_last(taken: usize) -> Option<Case> {
     let mut prepared = Lent::with_neighbour(taken)?;
     prepared.change(|relay| {
         let ends = (0..START).rev();
         relay.rows_of_mut(PARTNER).zip(ends).for_each(|(lease, end)| lease.expiry = end);
     })?;
+    let what = match taken {
+        TAKEN => "lease, thirteen candidates taken, the earliest row last",
+        _ => "lease, the earliest row last",
+    };
     request(what, prepared, Message::LeaseRequest, NEW)
 }
 
@@ -88,21 +100,27 @@ fn last_renewable() -> Option<Case> {
         relay.rows_of_mut(PARTNER).last().into_iter().for_each(|lease| lease.id = KEPT);
     })?;
     let again = Message::LeaseRequestWithCookie { cookie: &asked };
-    request("lease with a cookie, thirteen taken, the last row renewed", prepared, again, RENEWED)
+    request("lease with a cookie, thirteen candidates taken, the last row renewed", prepared, again, RENEWED)
 }
 
-/// All rows of the partner have the cookie, and all but the last leases that run without a holder; but the id of each is
-/// also live in one of the last rows of the table. The last row is left for a new lease.
-fn none_renewable() -> Option<Case> {
-    let (mut prepared, asked) = Lent::with_last_rows_live()?;
+/// All rows of the partner but the last have leases that run without a holder, and one cookie. If that is asked with, none
+/// can be renewed: the id of each is also live far down the table. None of them is a candidate.
+fn others_live(with_cookie: bool) -> Option<Case> {
+    let (mut prepared, cookie) = Lent::with_last_rows_live()?;
     prepared.change(|relay| {
-        relay.rows_of_mut(PARTNER).zip(LAST_ROW..).for_each(|(lease, id)| {
-            (lease.expiry, lease.id, lease.holder, lease.cookie) = (model::TIME_LIMIT, id, NOBODY as u8, asked);
+        relay.rows_of_mut(PARTNER).zip(taken_ids().end..).for_each(|(lease, id)| {
+            (lease.expiry, lease.id, lease.holder, lease.cookie) = (model::TIME_LIMIT, id, NOBODY as u8, cookie);
         });
         relay.rows_of_mut(PARTNER).last().into_iter().for_each(|lease| lease.expiry = START);
     })?;
-    let again = Message::LeaseRequestWithCookie { cookie: &asked };
-    request("lease with a cookie, thirteen taken, none to renew", prepared, again, NEW)
+    let (what, lease) = match with_cookie {
+        true => (
+            "lease with a cookie, thirteen candidates taken, none renewed",
+            Message::LeaseRequestWithCookie { cookie: &cookie },
+        ),
+        false => ("lease, thirteen candidates taken, the other rows live", Message::LeaseRequest),
+    };
+    request(what, prepared, lease, NEW)
 }
 
 /// A lease request, each time after the lease has ended.
@@ -148,13 +166,13 @@ impl Lent {
         })
     }
 
-    /// Thirteen candidates are taken, by ids in the last rows of the table, and all rows of the neighbour are live. And a
-    /// cookie that differs from the drawn one in its last byte only.
+    /// Thirteen candidates are taken, by ids in the last rows of the table, and as many rows as a partner has are live before
+    /// those. And a cookie that differs from the drawn one in its last byte only.
     fn with_last_rows_live() -> Option<(Self, [u8; COOKIE_LENGTH])> {
         let mut prepared = Self::with_neighbour(TAKEN)?;
         prepared.change(|relay| {
             let each = relay.leases.len() / PARTNERS;
-            let rows = relay.leases.iter_mut().rev().take(each);
+            let rows = relay.leases.iter_mut().rev().take(TAKEN + each);
             rows.zip(LAST_ROW..).for_each(|(lease, id)| (lease.expiry, lease.id) = (model::TIME_LIMIT, id));
         })?;
         let mut cookie = *prepared.random.first_chunk()?;
@@ -163,6 +181,6 @@ impl Lent {
     }
 }
 
-fn taken_ids() -> impl Iterator<Item = u32> {
-    (LAST_ROW..).take(TAKEN)
+fn taken_ids() -> Range<u32> {
+    LAST_ROW..LAST_ROW + TAKEN as u32
 }
