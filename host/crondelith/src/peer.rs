@@ -42,10 +42,10 @@ in which nothing moves for 60 seconds says so.
 With '--cookie' the receiver keeps its lease's cookie in a file, a line of 48 hex digits, and asks
 for its id with it the next time, also after a power cut. Then 'kept' or 'new' follows the id on its
 line. It is 'new' the first time, when there is no such file; and else, if the relay has lost its
-leases, has given the id to another since, or takes the last connection for open still, which it may
-for a minute after a power cut. Those who send have to be told a new id; the file has its cookie by
-then. Who has the cookie can have the id, so the file is for its owner only (mode 0600). It is for
-one receiver at a time, which locks a file of the same name with '.lock' after it.
+leases, has given the id to another since, or takes the last connection for open, as it can do for
+minutes after a power cut. Those who send have to be told a new id; the file has its cookie by then.
+Who has the cookie can have the id, so the file is for its owner only (mode 0600). It is for one
+receiver at a time, which locks a file of the same name with '.lock' after it.
 
 The exit status is 0 if the whole file has come, 1 if not, also when interrupted before (Ctrl-C),
 and 2 if the arguments are wrong, FILE is in the way at the start, or the file of '--cookie' holds
