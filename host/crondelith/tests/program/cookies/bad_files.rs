@@ -1,7 +1,7 @@
 //! Cookie files that can't be used, or that others can read, and two receivers with one.
 
 use std::fs::{self, Permissions};
-use std::os::unix::fs::{MetadataExt, PermissionsExt};
+use std::os::unix::fs::{chown, MetadataExt, PermissionsExt};
 use std::path::Path;
 use std::process::{Command, Stdio};
 
@@ -157,6 +157,24 @@ fn a_file_that_others_can_read_is_tightened_with_a_note() {
         let lines = receiver.await_line("waiting for a sender").expect("a line");
         assert_eq!(lines.contains("(mode 0644), so its mode is 0600 now"), noted, "{lines}");
     }
+}
+
+/// Only root can make a file of another owner, so for others there is nothing to see.
+#[test]
+fn a_file_whose_mode_cannot_be_changed_is_used_with_a_note() {
+    let (relay, scene) = (Scripted::new(), Scene::new("cookie_of_another"));
+    fs::write(&scene.cookie, line(&COOKIE)).expect("a file");
+    set_mode(&scene.cookie, 0o644);
+    if chown(&scene.cookie, Some(65_534), None).is_err() {
+        return;
+    }
+    let copy = scene.folder.join("copy");
+    let mut receiver = Running::start(&mut unprivileged(&relay.arguments(&copy, &scene.cookie)));
+    relay.accept().grant(5, &COOKIE, 1 << 39);
+    assert_eq!(receiver.line(), "5 kept");
+    assert_eq!(mode(&scene.cookie), 0o644);
+    let lines = receiver.await_line("waiting for a sender").expect("a line");
+    assert!(lines.contains("others can read the cookie file") && lines.contains("(mode 0644)"), "{lines}");
 }
 
 #[test]
