@@ -11,8 +11,8 @@ use crate::{note, Failure, Outcome};
 
 const NOT_RENEWED: &str = "\
 the relay hasn't renewed the id of before, and this is a new one: tell it to those who send, as the old one doesn't \
-lead here any more. A relay renews no id whose last connection it takes for open still (after a power cut for a minute \
-or more), nor one that is another's by now or that it has lost";
+lead here any more. A relay renews no id whose last connection it takes for open still (after a power cut for some \
+minutes), nor one that is another's by now or that it has lost";
 
 /// Leases the id of a receiver, which may have a cookie file, and prints it.
 pub struct ReceiverId {
