@@ -1,7 +1,8 @@
 //! `crondelith peer`: receives or sends a file through a relay.
 
+mod receiver_id;
+
 use std::fs::File;
-use std::io::{stdout, Write};
 use std::path::{Path, PathBuf};
 use std::time::Duration;
 
@@ -16,6 +17,7 @@ use server::PARTNERS;
 use crate::serve::{DEFAULT_BASE_PORT, HIGHEST_BASE_PORT};
 use crate::signals::Watch;
 use crate::{note, Failure, Outcome};
+use receiver_id::ReceiverId;
 
 const ABOUT: &str = "\
 Receives or sends a file through a relay: 'receive' leases an id, prints it on stdout and waits;
@@ -32,14 +34,23 @@ With a port in '--relay', '--port' and '--partner' may not be given.
 
 The receiver writes to a file beside FILE, of the same name with some letters and '.part' after it.
 Once that is complete and has the sender's digest it gets its name; otherwise it is removed. While
-the receiver waits it extends its lease; if the relay doesn't extend it, it leases another id and
-prints that one too. The sender is done when the receiver has confirmed the file, with its digest.
-A relay hands on 65,536 bytes a second for a partner whose allowance is used up. A transfer in which
-nothing moves for 60 seconds says so.
+the receiver waits it extends its lease; if the relay doesn't extend or renew it, it leases another
+id and prints that one too. The sender is done when the receiver has confirmed the file, with its
+digest. A relay hands on 65,536 bytes a second for a partner whose allowance is used up. A transfer
+in which nothing moves for 60 seconds says so.
+
+With '--cookie' the receiver keeps its lease's cookie in a file, a line of 48 hex digits, and asks
+for its id with it the next time, also after a power cut. Then 'kept' or 'new' follows the id on its
+line. It is 'new' the first time, when there is no such file; and else, if the relay has lost its
+leases, has given the id to another since, or takes the last connection for open, as it can do for
+minutes after a power cut. Those who send have to be told a new id; the file has its cookie by then.
+Who has the cookie can have the id, so the file is for its owner only (mode 0600). It is for one
+receiver at a time, which locks a file of the same name with '.lock' after it.
 
 The exit status is 0 if the whole file has come, 1 if not, also when interrupted before (Ctrl-C),
-and 2 if the arguments are wrong or FILE is in the way at the start. A second Ctrl-C a second later
-ends the program at once, and may leave the '.part' file.";
+and 2 if the arguments are wrong, FILE is in the way at the start, or the file of '--cookie' holds
+something else. A second Ctrl-C a second later ends the program at once, and may leave the '.part'
+file.";
 
 /// Receive or send a file through a relay
 #[derive(Args)]
@@ -98,6 +109,10 @@ struct Options {
     #[arg(long, global = true, help_heading = "Options of 'receive'")]
     force: bool,
 
+    /// A file that keeps the id from one run to the next
+    #[arg(long, global = true, help_heading = "Options of 'receive'", value_name = "FILE")]
+    cookie: Option<PathBuf>,
+
     /// Bytes of the file in each message, 1 to 65533 [default: 16384]
     #[arg(long, global = true, help_heading = "Options of 'send'", value_name = "N",
         value_parser = value_parser!(u16).range(1..=DATA_LIMIT as i64))]
@@ -112,6 +127,9 @@ pub fn run(arguments: Arguments) -> Outcome {
         }
         Direction::Receive { file } => receive(&file, &options),
         Direction::Send { .. } if options.force => Err(Failure::Usage("'--force' is an option of 'receive'".into())),
+        Direction::Send { .. } if options.cookie.is_some() => {
+            Err(Failure::Usage("'--cookie' is an option of 'receive'".into()))
+        }
         Direction::Send { id, file } => send(id, &file, &options),
     }
 }
@@ -119,21 +137,31 @@ pub fn run(arguments: Arguments) -> Outcome {
 fn receive(file: &Path, options: &Options) -> Outcome {
     let port = options.partner_port()?;
     PartFile::check(file, options.force).map_err(|error| in_the_way(file, error))?;
+    if options.cookie.as_deref().and_then(place).is_some_and(|cookie| place(file) == Some(cookie)) {
+        return Err(Failure::Usage("FILE and the cookie file are the same".into()));
+    }
     let watch = Watch::start("interrupted before the whole file had come")?;
+    // The cookie file is this receiver's until it ends.
+    let mut id = ReceiverId::new(options.cookie.as_deref())?;
     let peer = options.connect(port, &watch)?;
-    let received = receive_at(peer, file, options, &watch);
+    let received = receive_at(peer, &mut id, file, options, &watch);
     let (peer, kept) = received.map_err(|failure| watch.explain(failure))?;
     part_with(peer, file, &kept, &watch);
     Ok(())
 }
 
 /// Waits for a sender and keeps its file. The sender isn't told yet.
-fn receive_at(mut peer: Peer, file: &Path, options: &Options, watch: &Watch) -> Result<(Peer, Fingerprint), Failure> {
+fn receive_at(
+    mut peer: Peer,
+    id: &mut ReceiverId,
+    file: &Path,
+    options: &Options,
+    watch: &Watch,
+) -> Result<(Peer, Fingerprint), Failure> {
     let at_file = |error| failed_at(file, error);
     let mut part = PartFile::create(file, options.force).map_err(at_file)?;
-    print_id(peer.lease().map_err(failed)?)?;
-    note("waiting for a sender; the id is its first argument");
-    await_session(&mut peer)?;
+    id.lease(&mut peer)?;
+    id.await_session(&mut peer)?;
     let sent =
         show(|progress| receive_contents(&mut peer, &mut part, options.patience(), progress)).map_err(at_file)?;
     let kept = part.keep_on(&SystemDisk, &sent, || watch.interrupted()).map_err(at_file)?;
@@ -155,20 +183,6 @@ fn part_with(mut peer: Peer, file: &Path, kept: &Fingerprint, watch: &Watch) {
     }
 }
 
-fn await_session(peer: &mut Peer) -> Outcome {
-    let (closer, mut printed) = (peer.closer(), Ok(()));
-    let waited = peer.await_session(|id| {
-        note("the relay hasn't extended the lease; this is a new id, and the old one is of no use");
-        printed = print_id(id);
-        if printed.is_err() {
-            // Nobody knows the id, so nobody will come.
-            closer.close();
-        }
-    });
-    printed?;
-    waited.map_err(failed)
-}
-
 fn send(id: u32, path: &Path, options: &Options) -> Outcome {
     let port = options.partner_port()?;
     let size = options.message_size.map_or(MESSAGE_SIZE, usize::from);
@@ -183,6 +197,12 @@ fn send(id: u32, path: &Path, options: &Options) -> Outcome {
     note("the receiver has confirmed the whole file");
     finish(peer);
     Ok(())
+}
+
+/// Where a file is or will be, whichever way its folder is told. None if there is no such folder.
+fn place(path: &Path) -> Option<PathBuf> {
+    let folder = path.parent().filter(|folder| !folder.as_os_str().is_empty()).unwrap_or(Path::new("."));
+    Some(folder.canonicalize().ok()?.join(path.file_name()?))
 }
 
 /// A file to send.
@@ -229,13 +249,6 @@ fn show<T>(transfer: impl FnOnce(&mut dyn FnMut(Progress)) -> Result<T, Error>) 
     let outcome = transfer(&mut |progress| meter.update(progress));
     meter.end();
     outcome
-}
-
-/// The id alone on a line of stdout, for a script to read.
-fn print_id(id: u32) -> Outcome {
-    let mut out = stdout();
-    let printed = writeln!(out, "{id}").and_then(|()| out.flush());
-    printed.map_err(|error| Failure::Failed(format!("the id {id} can't be printed: {error}")))
 }
 
 /// The transfer is complete, so an error in parting changes nothing.

@@ -9,15 +9,25 @@ use crate::{Error, Peer};
 /// What the relay leases an id for.
 const LEASE_SECONDS: u64 = 3600;
 
-pub(crate) struct Lease {
-    id: u32,
-    cookie: [u8; COOKIE_LENGTH],
-    expiration: u64,
+/// What the relay gives with an id. Who has it can extend the lease, and have the id again later.
+pub type Cookie = [u8; COOKIE_LENGTH];
+
+/// An id as the relay leased it.
+#[derive(Clone, Copy, Debug, PartialEq, Eq)]
+pub struct Lease {
+    pub id: u32,
+    pub cookie: Cookie,
+    pub expiration: u64,
 }
 
 impl Lease {
     fn granted(id: u32, cookie: &[u8], expiration: u64) -> Option<Self> {
         Some(Self { id, cookie: cookie.try_into().ok()?, expiration })
+    }
+
+    /// Whether it is the one that had this cookie: a new lease has a cookie of its own.
+    pub fn renews(&self, cookie: Option<&Cookie>) -> bool {
+        cookie == Some(&self.cookie)
     }
 
     fn extension_due(&self) -> Instant {
@@ -47,18 +57,30 @@ enum Event {
 impl Peer {
     /// Leases an id.
     pub fn lease(&mut self) -> Result<u32, Error> {
-        self.send(&Message::LeaseRequest)?;
+        self.lease_again(None).map(|lease| lease.id)
+    }
+
+    /// Likewise, with the cookie of an earlier lease if there was one. The relay renews that lease if it can.
+    pub fn lease_again(&mut self, cookie: Option<&Cookie>) -> Result<Lease, Error> {
+        self.request_lease(cookie)?;
         let lease = self.answer(|message| match message {
             Message::LeaseGranted { id, cookie, expiration } => Lease::granted(id, cookie, expiration).map(Ok),
             Message::LeaseRefused => Some(Err(Error::LeaseRefused)),
             _ => None,
         })??;
-        Ok(self.lease.insert(lease).id)
+        Ok(*self.lease.insert(lease))
+    }
+
+    fn request_lease(&mut self, cookie: Option<&Cookie>) -> Result<(), Error> {
+        match cookie {
+            Some(cookie) => self.send(&Message::LeaseRequestWithCookie { cookie }),
+            None => self.send(&Message::LeaseRequest),
+        }
     }
 
     /// Waits until another peer has established a session with this one. The lease is extended meanwhile; if the relay
-    /// doesn't, another id is leased, which `new_id` is told.
-    pub fn await_session(&mut self, mut new_id: impl FnMut(u32)) -> Result<(), Error> {
+    /// doesn't, it is asked to renew the lease, and if it leases another id then, `new_lease` is told.
+    pub fn await_session(&mut self, mut new_lease: impl FnMut(&Lease)) -> Result<(), Error> {
         let mut extension_due = self.extension_due();
         loop {
             match self.event(extension_due)? {
@@ -71,15 +93,22 @@ impl Peer {
                     self.lease.iter_mut().for_each(|lease| lease.expiration = expiration);
                     extension_due = self.extension_due();
                 }
-                Event::NotExtended => self.send(&Message::LeaseRequest)?,
+                Event::NotExtended => self.request_lease(self.cookie().as_ref())?,
                 Event::Leased(lease) => {
-                    new_id(self.lease.insert(lease).id);
+                    if !lease.renews(self.cookie().as_ref()) {
+                        new_lease(&lease);
+                    }
+                    self.lease = Some(lease);
                     extension_due = self.extension_due();
                 }
                 Event::LeaseRefused => return Err(Error::LeaseRefused),
                 Event::Other => {}
             }
         }
+    }
+
+    fn cookie(&self) -> Option<Cookie> {
+        self.lease.map(|lease| lease.cookie)
     }
 
     fn extension_due(&self) -> Option<Instant> {

@@ -17,6 +17,7 @@
 
 mod address;
 mod connection;
+mod cookie_file;
 mod disk;
 mod error;
 mod fingerprint;
@@ -32,10 +33,11 @@ mod source_file;
 
 pub use address::{AddressError, RelayAddress};
 pub use connection::Closer;
+pub use cookie_file::{Access, CookieFile};
 pub use disk::{Disk, SystemDisk};
 pub use error::Error;
 pub use fingerprint::{Fingerprint, DIGEST_LENGTH};
-pub use lease::extension_wait;
+pub use lease::{extension_wait, Cookie, Lease};
 pub use part_file::PartFile;
 pub use patience::Patience;
 pub use peer::Peer;

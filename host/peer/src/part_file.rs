@@ -1,10 +1,10 @@
 //! A file that appears under its name only once it is complete.
 
 use std::ffi::{OsStr, OsString};
-use std::fs::{self, File, Metadata, OpenOptions};
+use std::fs::{self, File, Metadata, OpenOptions, Permissions};
 use std::io::{self, Seek, Write};
 use std::os::unix::ffi::{OsStrExt, OsStringExt};
-use std::os::unix::fs::MetadataExt;
+use std::os::unix::fs::{MetadataExt, OpenOptionsExt, PermissionsExt};
 use std::path::{Path, PathBuf};
 
 use crate::disk::{Disk, SystemDisk};
@@ -12,6 +12,10 @@ use crate::{Error, Fingerprint};
 
 /// The longest name of a file, in bytes.
 const NAME_LIMIT: usize = 255;
+/// The mode of a file that is nobody else's business.
+pub(crate) const PRIVATE: u32 = 0o600;
+/// That of others, of which the umask takes something away.
+const USUAL: u32 = 0o666;
 
 /// A file that is written beside its later place, under a name of its own that ends in ".part". Unless it is kept,
 /// dropping it removes it.
@@ -38,12 +42,23 @@ impl PartFile {
     }
 
     pub fn create(whole: &Path, replace: bool) -> Result<Self, Error> {
+        Self::create_as(USUAL, whole, replace)
+    }
+
+    /// One that replaces what has the name, and that only its owner can read and write, whatever the umask is.
+    pub fn create_private(whole: &Path) -> Result<Self, Error> {
+        let part = Self::create_as(PRIVATE, whole, true)?;
+        part.file.set_permissions(Permissions::from_mode(PRIVATE)).map_err(Error::Write)?;
+        Ok(part)
+    }
+
+    fn create_as(mode: u32, whole: &Path, replace: bool) -> Result<Self, Error> {
         let name = part_name(name_of(whole)?).map_err(Error::Write)?;
-        let folder = whole.parent().filter(|folder| !folder.as_os_str().is_empty()).unwrap_or(Path::new("."));
+        let folder = folder_of(whole);
         let part = folder.join(name);
         // Opened now, so that a folder that can't be synced shows before the file comes.
         let folder = File::open(folder).map_err(Error::Write)?;
-        let file = create_part(&part).map_err(Error::Write)?;
+        let file = create_part(&part, mode).map_err(Error::Write)?;
         Ok(Self { file, folder, part, whole: whole.to_owned(), replace, kept: false })
     }
 
@@ -120,8 +135,8 @@ impl PartFile {
 }
 
 /// A new file, and not what has the name already or what a link of that name points to.
-fn create_part(path: &Path) -> io::Result<File> {
-    OpenOptions::new().read(true).write(true).create_new(true).open(path)
+fn create_part(path: &Path, mode: u32) -> io::Result<File> {
+    OpenOptions::new().read(true).write(true).create_new(true).mode(mode).open(path)
 }
 
 impl Write for PartFile {
@@ -156,12 +171,16 @@ fn identity(metadata: &Metadata) -> (u64, u64) {
 }
 
 /// The name in the path. A path that ends in a slash or a dot is a folder's.
-fn name_of(whole: &Path) -> Result<&OsStr, Error> {
+pub(crate) fn name_of(whole: &Path) -> Result<&OsStr, Error> {
     let name = whole.file_name().filter(|name| whole.as_os_str().as_bytes().ends_with(name.as_bytes()));
     name.ok_or_else(|| match whole.as_os_str().is_empty() {
         true => Error::NotPlain(whole.to_owned()),
         false => Error::Folder(whole.to_owned()),
     })
+}
+
+pub(crate) fn folder_of(whole: &Path) -> &Path {
+    whole.parent().filter(|folder| !folder.as_os_str().is_empty()).unwrap_or(Path::new("."))
 }
 
 /// A name that no other file has: as much of the file's as fits, random digits and ".part".
@@ -187,7 +206,7 @@ mod tests {
     use std::io::ErrorKind;
     use std::os::unix::fs::symlink;
 
-    use super::create_part;
+    use super::{create_part, USUAL};
 
     #[test]
     fn a_part_is_a_new_file_and_follows_no_link() {
@@ -196,9 +215,9 @@ mod tests {
         fs::write(&there, "kept").expect("a file");
         symlink(&target, &link).expect("a link");
         for taken in [&there, &link] {
-            assert_eq!(create_part(taken).expect_err("the name is taken").kind(), ErrorKind::AlreadyExists);
+            assert_eq!(create_part(taken, USUAL).expect_err("the name is taken").kind(), ErrorKind::AlreadyExists);
         }
         assert!(fs::read(&there).expect("the file") == b"kept" && !target.exists());
-        create_part(&target).expect("a free name");
+        create_part(&target, USUAL).expect("a free name");
     }
 }

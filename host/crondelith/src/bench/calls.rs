@@ -15,9 +15,7 @@ pub fn section() -> Result<Section, Failure> {
 }
 
 fn row(case: Case) -> Result<Row, Failure> {
-    let what = case.what.to_owned();
-    let (engine, second) = (case.prepared.clone(), case.prepared.clone());
-    compare(what, &mut Calls { case, engine, second })
+    compare(case.what.to_owned(), &mut Calls::new(case))
 }
 
 /// A case with the memory of each side.
@@ -25,6 +23,13 @@ struct Calls {
     case: Case,
     engine: Lent,
     second: Lent,
+}
+
+impl Calls {
+    fn new(case: Case) -> Self {
+        let (engine, second) = (case.prepared.clone(), case.prepared.clone());
+        Self { case, engine, second }
+    }
 }
 
 impl Comparison for Calls {
@@ -39,5 +44,22 @@ impl Comparison for Calls {
         self.second.clear();
         let time = batch(|| self.case.repeat::<Second>(&mut self.second))?;
         (self.engine == self.second).then_some(time)
+    }
+}
+
+#[cfg(test)]
+mod tests {
+    use super::{cases, Calls, Comparison};
+
+    #[test]
+    fn every_case_can_be_measured() {
+        for case in cases::all().expect("cases") {
+            let what = case.what;
+            let mut calls = Calls::new(case);
+            for _ in 0..2 {
+                assert!(calls.engine().is_some(), "the engine: {what}");
+                assert!(calls.other().is_some(), "the second implementation: {what}");
+            }
+        }
     }
 }

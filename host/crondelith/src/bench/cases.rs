@@ -1,5 +1,7 @@
 //! The calls that are measured, each with tables on which it can be repeated and is accepted every time.
 
+pub mod leases;
+
 use std::hint::black_box;
 
 use codec::{Message, DATA_LIMIT};
@@ -37,32 +39,24 @@ impl Case {
 /// Partner 0's, which make the calls.
 const CALLER: u64 = 0;
 const HOLDER: u64 = 1;
-/// Partner 7's, whose lease rows are the last sixteen: a search for an id gets to them at its end.
-const NEIGHBOUR: u64 = 63;
 
 const START: u64 = 1_000_000;
 /// Fills any allowance.
 const REFILL_SECONDS: u64 = 4;
-/// Ends a lease.
-const LEASE_SECONDS: u64 = 3_601;
-
-/// A free id; the taken ones follow it.
+/// A free id.
 const FREE: u32 = 1;
-const TAKEN: usize = 13;
 
 /// Every case; None if the engine can't be brought to where one begins.
 pub fn all() -> Option<Vec<Case>> {
-    Some(vec![
-        open_and_close()?,
-        keepalive()?,
-        lease("lease, first candidate free", 0)?,
-        lease("lease, thirteen candidates taken", TAKEN)?,
-        extension()?,
+    let mut cases = vec![open_and_close()?, keepalive()?];
+    cases.extend(leases::all()?);
+    cases.extend([
         establish_and_end()?,
         send("send of 1 byte", 1)?,
         send("send of 1,024 bytes", 1_024)?,
         longest_send()?,
-    ])
+    ]);
+    Some(cases)
 }
 
 fn open_and_close() -> Option<Case> {
@@ -82,40 +76,6 @@ fn keepalive() -> Option<Case> {
     prepared.open(CALLER)?;
     let keepalive = message(CALLER, Message::Keepalive, nothing())?;
     Some(Case { what: "keepalive", calls: vec![keepalive], seconds: REFILL_SECONDS, prepared, reply_start: &[] })
-}
-
-/// A lease, with so many candidates before the free one. All others are ids of a neighbour's leases.
-fn lease(what: &'static str, taken: usize) -> Option<Case> {
-    let mut prepared = Lent::fresh(BUFFER)?;
-    prepared.open(CALLER)?;
-    prepared.lease_thirteen()?;
-    prepared.prolong_leases()?;
-    let mut candidates = taken_ids().collect::<Vec<_>>();
-    candidates.insert(taken, FREE);
-    prepared.random = random_bytes(candidates);
-    let request = message(CALLER, Message::LeaseRequest, reply(38))?;
-    Some(Case {
-        what,
-        calls: vec![request],
-        seconds: LEASE_SECONDS,
-        prepared,
-        reply_start: &[3, 1, 0, 0, 0, FREE as u8],
-    })
-}
-
-fn extension() -> Option<Case> {
-    let mut prepared = Lent::fresh(BUFFER)?;
-    prepared.open(CALLER)?;
-    prepared.lease(CALLER, FREE)?;
-    let cookie = prepared.random.get(..codec::COOKIE_LENGTH)?;
-    let request = message(CALLER, Message::ExtensionRequest { cookie }, reply(10))?;
-    Some(Case {
-        what: "lease extension",
-        calls: vec![request],
-        seconds: REFILL_SECONDS,
-        prepared,
-        reply_start: &[5, 1],
-    })
 }
 
 fn establish_and_end() -> Option<Case> {
@@ -189,27 +149,22 @@ impl Lent {
         self.prolong_leases()
     }
 
-    /// Takes ids in another partner's rows. A connection may lease again after it was closed, and its lease runs on.
-    fn lease_thirteen(&mut self) -> Option<()> {
-        taken_ids().try_for_each(|id| {
-            self.open(NEIGHBOUR)?;
-            self.lease(NEIGHBOUR, id)?;
-            self.make(&call(NEIGHBOUR, Kind::Close, nothing()))
+    /// Makes the leases outlast every repetition. The engine grants none so long.
+    fn prolong_leases(&mut self) -> Option<()> {
+        let now = self.now;
+        self.change(|relay| {
+            let live = relay.leases.iter_mut().filter(|lease| lease.is_live(now));
+            live.for_each(|lease| lease.expiry = model::TIME_LIMIT);
         })
     }
 
-    /// Makes the leases outlast every repetition. The engine grants none so long, so the tables are changed by hand.
-    fn prolong_leases(&mut self) -> Option<()> {
+    /// Changes the tables by hand, to what no call or not so few calls would make of them.
+    fn change(&mut self, change: impl FnOnce(&mut model::Relay)) -> Option<()> {
         let mut relay = model::Relay::decode(&self.tables)?;
-        let live = relay.leases.iter_mut().filter(|lease| lease.is_live(self.now));
-        live.for_each(|lease| lease.expiry = model::TIME_LIMIT);
+        change(&mut relay);
         self.tables = relay.encode();
         Some(())
     }
-}
-
-fn taken_ids() -> impl Iterator<Item = u32> {
-    (FREE + 1..).take(TAKEN)
 }
 
 /// Random bytes with these candidates for an id, and a cookie that goes with the first of them.

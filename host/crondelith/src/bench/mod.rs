@@ -4,6 +4,7 @@
 mod calls;
 mod cases;
 mod copy;
+mod longest_lease;
 mod loopback;
 mod measure;
 pub mod peers;
@@ -96,7 +97,8 @@ impl Section {
 }
 
 /// The sections, in the table's order.
-const SECTIONS: [fn() -> Result<Section, Failure>; 3] = [calls::section, copy::section, loopback::section];
+const SECTIONS: [fn() -> Result<Section, Failure>; 4] =
+    [calls::section, longest_lease::section, copy::section, loopback::section];
 
 pub fn run(arguments: Arguments) -> Outcome {
     Watch::start("interrupted")?;

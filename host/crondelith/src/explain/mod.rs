@@ -41,9 +41,11 @@ const DETAILS: &str = "\
 It says which check stops the call, or that it would be done; whether a lease would be accepted, or
 which of the four conditions fails first; whether a session would be established, or the status why
 not; what the call costs and what the partner has; and what is left, or how much is missing and
-after how many seconds it can be paid. For instance, a lease request from connection 9, now:
+after how many seconds it can be paid. For instance, a lease request from connection 9, now, and one
+with the cookie in the file of a receiver:
 
   crondelith explain relay.state message --connection 9 --hex 0200 --time $(date +%s)
+  crondelith explain relay.state message --connection 9 --hex 0201$(cat FILE) --time $(date +%s)
 
 The file's clock is the time of the last call that was done, or of the relay's start if none was.
 Later the allowances have refilled, and leases may have ended. What is told is the answer to a call

@@ -62,7 +62,7 @@ fn the_version_is_printed() {
 }
 
 /// Arguments, and the reason why they are wrong.
-const WRONG: [(&[&str], &str); 52] = [
+const WRONG: [(&[&str], &str); 57] = [
     (&[], "'crondelith' requires a subcommand"),
     (&["dance"], "'dance' wasn't recognized"),
     (&["help", "dance"], "'dance' wasn't recognized"),
@@ -95,6 +95,11 @@ const WRONG: [(&[&str], &str); 52] = [
     (&["peer", "--port", "7", "receive", "file", "--relay=localhost:7700"], "a port in '--relay'"),
     (&["peer", "receive", "file", "--message-size", "9"], "'--message-size' is an option of 'send'"),
     (&["peer", "--force", "send", "5", "file"], "'--force' is an option of 'receive'"),
+    (&["peer", "send", "5", "file", "--cookie", "c"], "'--cookie' is an option of 'receive'"),
+    (&["peer", "receive", "file", "--cookie"], "'--cookie <FILE>' requires a value"),
+    (&["peer", "receive", "file", "--cookie", "c", "--cookie", "d"], "more than once"),
+    (&["peer", "receive", "file", "--cookie", "./file"], "FILE and the cookie file are the same"),
+    (&["peer", "receive", "file", "--cookie", "/"], "the cookie file '/': it has to be the name of a file"),
     (&["explain"], "'crondelith explain' requires a subcommand"),
     (&["explain", "state"], "'crondelith explain' requires a subcommand"),
     (&["explain", "open", "--connection", "1"], "<STATE>"),

@@ -2,6 +2,7 @@
 
 mod arguments;
 mod bad_days;
+mod cookies;
 mod demo;
 mod explain;
 mod outputs;

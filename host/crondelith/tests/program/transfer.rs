@@ -80,7 +80,7 @@ fn receiver_of_a_byte(copy: &Path) -> (Running, TcpStream) {
     (receiver, connection)
 }
 
-fn send(connection: &mut TcpStream, message: Message) {
+pub fn send(connection: &mut TcpStream, message: Message) {
     let mut frame = Vec::new();
     frames::append(&codec::encode(&message).expect("a message"), &mut frame).expect("a frame");
     connection.write_all(&frame).expect("sent");

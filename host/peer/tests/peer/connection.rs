@@ -6,7 +6,7 @@ use std::thread::{self, JoinHandle};
 use std::time::{Duration, Instant, SystemTime, UNIX_EPOCH};
 
 use codec::{Message, DATA_LIMIT};
-use peer::{confirm, extension_wait, receive_contents, Error, Patience, Peer};
+use peer::{confirm, extension_wait, receive_contents, Error, Lease, Patience, Peer};
 
 use crate::support::{assert_words, fingerprint, scripted, Connection, COOKIE, ID, LATER, SESSION, VERSION};
 
@@ -113,6 +113,31 @@ fn a_lease_and_a_refused_one() {
     assert_words(lease(drop).expect_err("no lease"), &["closed the connection"]);
 }
 
+/// What leasing with a cookie gives at a relay that grants a lease with this one.
+fn lease_with_cookie(granted: [u8; 24]) -> Lease {
+    let (address, relay) = scripted(move |mut connection| {
+        connection.shake_hands();
+        connection.expect(Message::LeaseRequestWithCookie { cookie: &COOKIE });
+        connection.send(Message::LeaseGranted { id: ID, cookie: &granted, expiration: LATER });
+        connection.send(Message::EstablishNotification { session: SESSION });
+    });
+    let mut peer = Peer::connect(address).expect("a handshake");
+    let lease = peer.lease_again(Some(&COOKIE)).expect("a lease");
+    peer.await_session(|_| panic!("no new id")).expect("a session");
+    relay.join().expect("the relay");
+    lease
+}
+
+#[test]
+fn a_lease_with_a_cookie_is_renewed_or_another() {
+    let renewed = lease_with_cookie(COOKIE);
+    assert_eq!(renewed, Lease { id: ID, cookie: COOKIE, expiration: LATER });
+    assert!(renewed.renews(Some(&COOKIE)) && !renewed.renews(None));
+    let other = lease_with_cookie([8; 24]);
+    assert_eq!(other.cookie, [8; 24]);
+    assert!(!other.renews(Some(&COOKIE)));
+}
+
 #[test]
 fn an_unexpected_message_is_ignored_and_a_keepalive_answered() {
     let id = lease(|mut connection| {
@@ -197,15 +222,36 @@ fn a_lease_is_extended_and_else_another_id_leased() {
         // Half of what the extension left, and not of the first lease.
         assert!(asked.elapsed() > Duration::from_millis(1_500));
         connection.send(Message::ExtensionRefused);
-        connection.expect(Message::LeaseRequest);
-        connection.send(Message::LeaseGranted { id: 77, cookie: &[8; 24], expiration: LATER });
+        connection.expect(Message::LeaseRequestWithCookie { cookie: &COOKIE });
+        connection.send(Message::LeaseGranted { id: 77, cookie: &[8; 24], expiration: 0 });
+        connection.expect(Message::ExtensionRequest { cookie: &[8; 24] });
         connection.send(Message::EstablishNotification { session: SESSION });
     });
     let mut peer = Peer::connect(address).expect("a handshake");
     assert_eq!(peer.lease().expect("a lease"), ID);
-    let mut ids = Vec::new();
-    peer.await_session(|id| ids.push(id)).expect("a session");
-    assert_eq!(ids, [77]);
+    let mut leases = Vec::new();
+    peer.await_session(|lease| leases.push(*lease)).expect("a session");
+    assert_eq!(leases, [Lease { id: 77, cookie: [8; 24], expiration: 0 }]);
+    relay.join().expect("the relay");
+}
+
+/// The peer was stopped for longer than its lease, say.
+#[test]
+fn a_lease_that_has_ended_is_renewed() {
+    let (address, relay) = scripted(|mut connection| {
+        connection.shake_hands();
+        connection.grant_lease(0);
+        for _ in 0..2 {
+            connection.expect(Message::ExtensionRequest { cookie: &COOKIE });
+            connection.send(Message::ExtensionRefused);
+            connection.expect(Message::LeaseRequestWithCookie { cookie: &COOKIE });
+            connection.send(Message::LeaseGranted { id: ID, cookie: &COOKIE, expiration: 0 });
+        }
+        connection.send(Message::EstablishNotification { session: SESSION });
+    });
+    let mut peer = Peer::connect(address).expect("a handshake");
+    peer.lease().expect("a lease");
+    peer.await_session(|_| panic!("no new id")).expect("a session");
     relay.join().expect("the relay");
 }
 
@@ -216,7 +262,7 @@ fn an_extension_and_another_id_refused() {
         connection.grant_lease(0);
         connection.expect(Message::ExtensionRequest { cookie: &COOKIE });
         connection.send(Message::ExtensionRefused);
-        connection.expect(Message::LeaseRequest);
+        connection.expect(Message::LeaseRequestWithCookie { cookie: &COOKIE });
         connection.send(Message::LeaseRefused);
     });
     let mut peer = Peer::connect(address).expect("a handshake");

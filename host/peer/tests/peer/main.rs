@@ -2,6 +2,7 @@
 
 mod address;
 mod connection;
+mod cookie_file;
 mod digest;
 mod part_file;
 mod patience;

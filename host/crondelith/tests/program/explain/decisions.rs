@@ -1,6 +1,7 @@
 //! What decides a lease and a session.
 
 use std::fs;
+use std::process::Command;
 
 use codec::Message;
 use serde_json::json;
@@ -9,6 +10,7 @@ use super::{
     assert_has, assert_lacks, await_saved, establish, explain_message, hex, lease, peer, relay, Session, FIRST,
     KEEPALIVE, SECOND, THIRD,
 };
+use crate::support::PROGRAM;
 
 /// The random bytes that have this cookie, and this number for every id.
 fn random(cookie: &[u8], id: u32) -> String {
@@ -19,21 +21,42 @@ fn random(cookie: &[u8], id: u32) -> String {
 fn the_random_bytes_of_a_lease_decide_as_the_relay_would() {
     let (relay, state) = relay("explain_random");
     let mut holder = peer(&relay);
-    let (id, cookie) = lease(&mut holder);
+    let (id, own) = lease(&mut holder);
     let _second = peer(&relay);
     await_saved(|| explain_message(&state, SECOND, KEEPALIVE, &[])["check"] == 0);
     let new = [0xab; 24];
     for (connection, cookie, candidate, condition) in [
-        (FIRST, &cookie[..], id, 1),
-        (SECOND, &cookie, id, 3),
+        (FIRST, &own[..], id, 1),
+        (SECOND, &own, id, 3),
         (SECOND, &new, id, 4),
         // Ids have 26 bits.
         (SECOND, &new, id | 1 << 26, 4),
         (SECOND, &new, id ^ 1, 0),
     ] {
-        let object = explain_message(&state, connection, "0200", &["--random", &random(cookie, candidate)]);
-        assert_has(&object, json!({ "check": 0, "request": "lease", "condition": condition }));
+        // A request's cookie, the lease's own or any, changes no condition.
+        for request in ["0200".to_owned(), "0201".to_owned() + &hex(&own), "0201".to_owned() + &"cd".repeat(24)] {
+            let object = explain_message(&state, connection, &request, &["--random", &random(cookie, candidate)]);
+            let length = request.len() / 2;
+            assert_has(&object, json!({ "check": 0, "message_length": length, "cost": 32 + length }));
+            assert_has(&object, json!({ "request": "lease", "condition": condition }));
+        }
     }
+}
+
+/// As the file of a receiver has the cookie.
+#[test]
+fn a_lease_with_the_cookie_of_a_file() {
+    let (relay, state) = relay("explain_cookie");
+    let _first = peer(&relay);
+    let file = state.with_extension("cookie");
+    fs::write(&file, "0123456789abcdef".repeat(3) + "\n").expect("a file");
+    await_saved(|| explain_message(&state, FIRST, KEEPALIVE, &[])["check"] == 0);
+    let words = format!("'{PROGRAM}' explain '{}' message --connection {FIRST}", state.display());
+    let shell = format!("{words} --hex 0201$(cat '{}')", file.display());
+    let told = Command::new("sh").args(["-c", &shell]).output().expect("a shell");
+    let told = String::from_utf8(told.stdout).expect("text");
+    assert!(told.contains("26 bytes, type 2 (lease request)"), "{told}");
+    assert!(told.contains("accepted, all four conditions hold"), "{told}");
 }
 
 #[test]

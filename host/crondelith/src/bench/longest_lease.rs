@@ -1,0 +1,54 @@
+//! The longest searches of a lease, each against a lease that hasn't got it.
+
+use std::time::Duration;
+
+use super::cases::{leases, Case};
+use super::measure::{batch, Comparison};
+use super::relays::{Engine, Lent};
+use super::{compare, Aim, Row, Section};
+use crate::Failure;
+
+pub fn section() -> Result<Section, Failure> {
+    let cases = leases::longest().ok_or_else(super::unprepared)?;
+    let rows = cases.into_iter().map(row).collect::<Result<_, _>>()?;
+    let aim = Aim { text: "the longest searches for a row at most 1.3 times a lease without", greatest_ratio: 1.3 };
+    Ok(Section { rows, aim: Some(aim) })
+}
+
+fn row((longest, other): (Case, Case)) -> Result<Row, Failure> {
+    let what = format!("{}, against {}", longest.what, other.what);
+    compare(what, &mut Leases { longest: Side::new(longest), other: Side::new(other) })
+}
+
+/// Both sides are the engine's.
+struct Leases {
+    longest: Side,
+    other: Side,
+}
+
+struct Side {
+    case: Case,
+    lent: Lent,
+}
+
+impl Comparison for Leases {
+    fn engine(&mut self) -> Option<Duration> {
+        self.longest.batch()
+    }
+
+    fn other(&mut self) -> Option<Duration> {
+        self.other.batch()
+    }
+}
+
+impl Side {
+    fn new(case: Case) -> Self {
+        Self { lent: case.prepared.clone(), case }
+    }
+
+    fn batch(&mut self) -> Option<Duration> {
+        self.lent.clear();
+        let time = batch(|| self.case.repeat::<Engine>(&mut self.lent))?;
+        self.case.is_replied(&self.lent).then_some(time)
+    }
+}
