@@ -5,18 +5,27 @@ use mathlib.Core.Path.{_≡_, sym, _∙_}
 use mathlib.Core.Bool.{Bool, true, false, not, _&&_}
 use mathlib.Core.List.{List}
 use native.Mathlib.Omega.{arith}
-use lib.Dec.{ltb}
+use lib.Dec.{eqb, ltb}
 use lib.ListN.{length}
 use borrow.Author.Tests.{lt-ltb, not-true, not-false}
 use Rattle.octets.specs.Octets.{part, same}
+use Rattle.octets.proofs.Tests.{and-true, and-false}
 use Rattle.octets.proofs.Parts.{length-part}
 use Rattle.octets.proofs.Equality.{same-length}
 use Rattle.svsc.specs.Messages.{cookieBytes}
 use Rattle.rules.specs.Sizes.{partners, rowsPerPartner, rowCount, leasesSize}
 use Rattle.rules.specs.Searches.{firstRow, endRow}
-use Rattle.rules.specs.Tables.{cookieAt, expiry, cookieOf, live, holderCounts}
+use Rattle.rules.specs.Tables.{cookieAt, expiry, cookieOf, live, liveWithId, holderCounts}
 use Rattle.rules.specs.Leases.{idElsewhere, renewable, rowToRenew}
 use Rattle.rules.proofs.Searches.{first-none}
+
+-- Another row that is live and has the id; alike is what the code's test of that answers.
+module _ {alike : Bool} (ls : List ℕ) (now id row other : ℕ) (test : alike ≡ liveWithId ls now id other) where
+  pub not-alike : not alike ≡ true → false ≡ not (eqb other row) && liveWithId ls now id other
+  not-alike e = rw (← test, not-true alike e, and-false (not (eqb other row)))
+
+  pub by-row : not alike ≡ false → not (eqb other row) ≡ not (eqb other row) && liveWithId ls now id other
+  by-row e = rw (← test, not-false alike e, and-true (not (eqb other row)))
 
 -- A cookie of another length renews no row.
 pub no-cookie : (cs ls : List ℕ) (now p : ℕ) (cookie : List ℕ) {end : ℕ} → length ls ≡ leasesSize → p < partners → end ≡ endRow p

@@ -1,11 +1,12 @@
 // Which lease a request's cookie renews. A table of the right size and numbers in range are required: the relay's checks 1 and 3 come before
 // anything here is called, and no answer would serve where they fail.
 ghost use mathlib.Core.Path.{_≡_};
-ghost use mathlib.Core.Bool.{_&&_};
+ghost use mathlib.Core.Bool.{not, _&&_};
 ghost use Prim.Native.Nat.{_<_};
+ghost use lib.Dec.{eqb};
 ghost use lib.ListN.{length};
 ghost use Rattle.rules.specs.Sizes.{partners, rowCount, leasesSize};
-ghost use Rattle.rules.specs.Tables.{live, holderCounts};
+ghost use Rattle.rules.specs.Tables.{live, liveWithId, holderCounts};
 ghost use Rattle.rules.specs.Leases.{idElsewhere, renewable, rowToRenew};
 
 // Whether the row is live and has a holder that counts.
@@ -17,6 +18,17 @@ fn is_held(connections: &[u8], leases: &[u8], time: u64, row: usize) -> bool
     lease_table::is_live(leases, time, row) & holders::holder_counts(connections, row, holder)
 }
 
+// Whether this other row is live and has the id. Most aren't or haven't, so whether it is another is looked at last.
+fn is_another(leases: &[u8], time: u64, id: u32, row: usize, other: usize) -> bool
+    requires { ⌜ (length (now leases) ≡ leasesSize) × (other < rowCount) ⌝ }
+    ensures { λ r. ⌜ r ≡ (not (eqb other row) && liveWithId (now (leases .entry)) time id other) ⌝ }
+{
+    if !lease_table::is_live_with_id(leases, time, id, other) {
+        return false;
+    }
+    other != row
+}
+
 // Whether another live row, of any partner, has the row's id.
 fn id_elsewhere(leases: &[u8], time: u64, row: usize) -> bool
     requires { ⌜ (length (now leases) ≡ leasesSize) × (row < rowCount) ⌝ }
@@ -24,7 +36,7 @@ fn id_elsewhere(leases: &[u8], time: u64, row: usize) -> bool
 {
     let id = lease_table::id_of(leases, row);
     for other in 0..rules::ROW_COUNT {
-        if (other != row) & lease_table::is_live_with_id(leases, time, id, other) {
+        if is_another(leases, time, id, row, other) {
             return true;
         }
     }

@@ -1,6 +1,6 @@
 -- `id_elsewhere`: whether one of all the rows passes is whether one of those that are left does.
 use Prim.Native.Nat.{_-_, _≤_}
-use mathlib.Core.Path.{_≡_, refl, sym, _∙_}
+use mathlib.Core.Path.{_≡_, sym, _∙_}
 use mathlib.Core.Bool.{not, _&&_}
 use lib.Dec.{eqb}
 use Rattle.rules.specs.Sizes.{rowCount}
@@ -28,14 +28,14 @@ loop-holds : tie.Need-loop-holds Inv-loop μ-loop
 unfolding idElsewhere
 loop-holds c = (omega arith, rw (c .id-of .ensures))
 
-is-live-with-id-requires : tie.Need-is-live-with-id-requires Inv-loop μ-loop
-is-live-with-id-requires c κs = search needs
+is-another-requires : tie.Need-is-another-requires Inv-loop μ-loop
+is-another-requires c κs = search needs
 
 returns : tie.Need-returns Inv-loop μ-loop
 returns c =
     let l = c .before .before .before .loop in
     let row = c .before .before .loop-test .taken in
-    sym (l .inv .1 ∙ any-hit _ _ row refl (rw (← (c .before .is-live-with-id .ensures)) (c .if1 .taken)))
+    sym (l .inv .1 ∙ any-hit _ _ row (c .before .is-another .ensures) (c .if1 .taken))
 
 add-other : tie.Need-add-other Inv-loop μ-loop
 add-other c = search needs
@@ -47,7 +47,7 @@ loop-again : tie.Need-loop-again Inv-loop μ-loop
 loop-again c =
     let l = c .before .before .before .loop in
     let row = c .before .before .loop-test .taken in
-    (omega arith, l .inv .1 ∙ any-miss _ _ row refl (rw (← (c .before .is-live-with-id .ensures)) (c .if1 .left)))
+    (omega arith, l .inv .1 ∙ any-miss _ _ row (c .before .is-another .ensures) (c .if1 .left))
 
 returns-2 : tie.Need-returns-2 Inv-loop μ-loop
 returns-2 c =
@@ -62,7 +62,7 @@ id-elsewhere-spec =
     μ-loop
     id-of-requires
     loop-holds
-    is-live-with-id-requires
+    is-another-requires
     returns
     add-other
     loop-less
