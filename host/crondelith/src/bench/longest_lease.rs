@@ -9,10 +9,16 @@ use super::{compare, Aim, Row, Section};
 use crate::Failure;
 
 pub fn section() -> Result<Section, Failure> {
-    let cases = leases::longest().ok_or_else(super::unprepared)?;
-    let rows = cases.into_iter().map(row).collect::<Result<_, _>>()?;
     let aim = Aim { text: "the longest searches for a row at most 1.3 times a lease without", greatest_ratio: 1.3 };
-    Ok(Section { rows, aim: Some(aim) })
+    rows(leases::longest()).map(|rows| Section { rows, aim: Some(aim) })
+}
+
+pub fn made_by_hand() -> Result<Section, Failure> {
+    rows(leases::made_by_hand()).map(|rows| Section { rows, aim: None })
+}
+
+fn rows<const N: usize>(cases: Option<[(Case, Case); N]>) -> Result<Vec<Row>, Failure> {
+    cases.ok_or_else(super::unprepared)?.into_iter().map(row).collect()
 }
 
 fn row((longest, other): (Case, Case)) -> Result<Row, Failure> {

@@ -97,8 +97,8 @@ impl Section {
 }
 
 /// The sections, in the table's order.
-const SECTIONS: [fn() -> Result<Section, Failure>; 4] =
-    [calls::section, longest_lease::section, copy::section, loopback::section];
+const SECTIONS: [fn() -> Result<Section, Failure>; 5] =
+    [calls::section, longest_lease::section, longest_lease::made_by_hand, copy::section, loopback::section];
 
 pub fn run(arguments: Arguments) -> Outcome {
     Watch::start("interrupted")?;

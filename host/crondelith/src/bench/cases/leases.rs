@@ -35,22 +35,33 @@ pub fn all() -> Option<Vec<Case>> {
         thirteen_taken()?,
         earliest_last(0)?,
         earliest_last(TAKEN)?,
-        others_live(false)?,
+        others_live(Asked::Nothing)?,
         renewed()?,
+        others_live(Asked::ForOneRow)?,
+        others_live(Asked::ForEveryRow)?,
         last_renewable()?,
-        others_live(true)?,
         extension()?,
     ])
 }
 
 /// What adds to the longest search for an id, each with a lease that hasn't got it: the search for the row of a new lease, and
 /// for one to renew.
-pub fn longest() -> Option<[(Case, Case); 3]> {
-    Some([
-        (earliest_last(TAKEN)?, thirteen_taken()?),
-        (last_renewable()?, thirteen_taken()?),
-        (others_live(true)?, others_live(false)?),
-    ])
+pub fn longest() -> Option<[(Case, Case); 2]> {
+    Some([(earliest_last(TAKEN)?, thirteen_taken()?), (others_live(Asked::ForOneRow)?, others_live(Asked::Nothing)?)])
+}
+
+/// The same where every row of the partner has the cookie that is asked with. No partner can bring that about: a cookie is drawn
+/// for each new lease.
+pub fn made_by_hand() -> Option<[(Case, Case); 2]> {
+    Some([(others_live(Asked::ForEveryRow)?, others_live(Asked::Nothing)?), (last_renewable()?, thirteen_taken()?)])
+}
+
+/// Which of the partner's rows have the cookie that is asked with.
+#[derive(Clone, Copy, PartialEq, Eq)]
+enum Asked {
+    Nothing,
+    ForOneRow,
+    ForEveryRow,
 }
 
 fn thirteen_taken() -> Option<Case> {
@@ -100,25 +111,27 @@ fn last_renewable() -> Option<Case> {
         relay.rows_of_mut(PARTNER).last().into_iter().for_each(|lease| lease.id = KEPT);
     })?;
     let again = Message::LeaseRequestWithCookie { cookie: &asked };
-    request("lease with a cookie, thirteen candidates taken, the last row renewed", prepared, again, RENEWED)
+    request("lease with the cookie of every row, thirteen candidates taken, the last renewed", prepared, again, RENEWED)
 }
 
-/// All rows of the partner but the last have leases that run without a holder, and one cookie. If that is asked with, none
-/// can be renewed: the id of each is also live far down the table. None of them is a candidate.
-fn others_live(with_cookie: bool) -> Option<Case> {
+/// All rows of the partner but the last have leases that run without a holder. None is renewed, since the id of each is also live far
+/// down the table; none of them is a candidate.
+fn others_live(asked: Asked) -> Option<Case> {
     let (mut prepared, cookie) = Lent::with_last_rows_live()?;
     prepared.change(|relay| {
-        relay.rows_of_mut(PARTNER).zip(taken_ids().end..).for_each(|(lease, id)| {
-            (lease.expiry, lease.id, lease.holder, lease.cookie) = (model::TIME_LIMIT, id, NOBODY as u8, cookie);
+        let rows = relay.rows_of_mut(PARTNER).enumerate().zip(taken_ids().end..);
+        rows.for_each(|((place, lease), id)| {
+            let has_cookie = place == 0 || asked == Asked::ForEveryRow;
+            lease.cookie = if has_cookie { cookie } else { [place as u8 ^ cookie[0]; COOKIE_LENGTH] };
+            (lease.expiry, lease.id, lease.holder) = (model::TIME_LIMIT, id, NOBODY as u8);
         });
         relay.rows_of_mut(PARTNER).last().into_iter().for_each(|lease| lease.expiry = START);
     })?;
-    let (what, lease) = match with_cookie {
-        true => (
-            "lease with a cookie, thirteen candidates taken, none renewed",
-            Message::LeaseRequestWithCookie { cookie: &cookie },
-        ),
-        false => ("lease, thirteen candidates taken, the other rows live", Message::LeaseRequest),
+    let again = Message::LeaseRequestWithCookie { cookie: &cookie };
+    let (what, lease) = match asked {
+        Asked::Nothing => ("lease, thirteen candidates taken, the other rows live", Message::LeaseRequest),
+        Asked::ForOneRow => ("lease with a cookie, thirteen candidates taken, the id is live elsewhere", again),
+        Asked::ForEveryRow => ("lease with the cookie of every row, thirteen candidates taken, none renewed", again),
     };
     request(what, prepared, lease, NEW)
 }
