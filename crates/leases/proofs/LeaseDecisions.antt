@@ -1,8 +1,8 @@
 -- The lease decision: a law for each way out, and that the row is one of the partner's. Assumes nothing.
 use Prim.Native.Nat.{ℕ, _≤_, _<_}
 use mathlib.Core.Path.{_≡_, refl, sym, ap, _∙_}
-use mathlib.Core.Bool.{Bool, true, false, not}
-use mathlib.Core.Option.{Option, none, some}
+use mathlib.Core.Bool.{Bool, true, false}
+use mathlib.Core.Option.{none, some}
 use mathlib.Core.List.{List}
 use native.Mathlib.Omega.{arith}
 use lib.Dec.{ltb}
@@ -11,7 +11,7 @@ use Rattle.octets.specs.Octets.{if_then_else_}
 use Rattle.rules.specs.Sizes.{candidateCount}
 use Rattle.rules.specs.Searches.{endRow}
 use Rattle.rules.specs.Tables.{partnerOf}
-use Rattle.rules.specs.Leases.{randomCookie, candidate, firstFree, holdsRow, spareRow, cookieTaken, rowToRenew, renewOrGrant, LeaseDecision, holdsLease, noSpareRow, cookieInUse, noFreeId, renewed, granted, decideLease}
+use Rattle.rules.specs.Leases.{randomCookie, firstFree, holdsRow, spareRow, cookieTaken, rowToRenew, renewOrGrant, LeaseDecision, holdsLease, noSpareRow, cookieInUse, noFreeId, renewed, granted, decideLease}
 use Rattle.rules.proofs.Decisions.{is-renewed, is-granted}
 use Rattle.leases.specs.declared.FreeId.{FreeId}
 use Rattle.leases.specs.declared.FreeId.the-variants as free

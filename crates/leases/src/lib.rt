@@ -16,7 +16,8 @@ pub enum FreeId {
     Nothing,
 }
 
-// What a lease request comes to: the first of 01's four conditions that fails, the row that is renewed, or the row and the id of a new lease.
+// What a lease request comes to: the first of 01's four conditions that fails, the row that is renewed, or the row and the id of a new
+// lease.
 pub enum LeaseDecision {
     HoldsLease,
     NoSpareRow,
@@ -72,8 +73,8 @@ fn renew_or_grant(
     LeaseDecision::Granted { row, id }
 }
 
-// The first of 01's conditions that fails, each looked at only where the earlier ones hold; or what is renewed or granted. The cookie is the
-// request's, no bytes if it has none; that of a new lease is the first bytes of the random ones.
+// The first of 01's conditions that fails, each looked at only where the earlier ones hold; or what is renewed or granted. The cookie is
+// the request's, no bytes if it has none; that of a new lease is the first bytes of the random ones.
 pub fn decide_lease(
     connections: &[u8],
     leases: &[u8],

@@ -1,5 +1,5 @@
-// Which lease a request's cookie renews. A table of the right size and numbers in range are required: the relay's checks 1 and 3 come before
-// anything here is called, and no answer would serve where they fail.
+// Which lease a request's cookie renews. A table of the right size and numbers in range are required: the relay's checks 1 and 3 come
+// before anything here is called, and no answer would serve where they fail.
 ghost use mathlib.Core.Path.{_≡_};
 ghost use mathlib.Core.Bool.{not, _&&_};
 ghost use Prim.Native.Nat.{_<_};

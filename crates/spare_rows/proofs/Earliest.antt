@@ -12,7 +12,7 @@ use borrow.Author.Tests.{eqb-true, eqb-false, ltb-true, ltb-false}
 use Rattle.octets.specs.Octets.{if_then_else_}
 use Rattle.rules.specs.Sizes.{rowsPerPartner}
 use Rattle.rules.specs.Searches.{firstRow, endRow}
-use Rattle.rules.specs.Tables.{ownerOf, expiry, live}
+use Rattle.rules.specs.Tables.{expiry, live}
 use Rattle.rules.specs.Leases.{spareRow}
 use Rattle.rules.proofs.Leases.{spare-is, spare-none}
 use Rattle.lease_table.proofs.Rows.{own-count}
