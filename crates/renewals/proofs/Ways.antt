@@ -1,31 +1,55 @@
 -- The ways out of the test whether a row is renewable, over plain values: one for each part of the sentence that fails, and the last part.
 -- Assumes nothing.
-use Prim.Native.Nat.{ℕ, _<_}
-use mathlib.Core.Path.{_≡_, sym, _∙_}
+use Prim.Native.Nat.{ℕ, _+_, _-_, _<_}
+use mathlib.Core.Path.{_≡_, refl, sym, _∙_}
 use mathlib.Core.Bool.{Bool, true, false, not, _&&_}
 use mathlib.Core.List.{List}
 use native.Mathlib.Omega.{arith}
+use native.Mathlib.Decide.{ℕ-discrete, decLt}
 use lib.Dec.{eqb, ltb}
 use lib.ListN.{length}
-use borrow.Author.Tests.{lt-ltb, not-true, not-false}
+use borrow.Author.Tests.{lt-ltb, eq-eqb, ne-eqb, not-true, not-false}
 use Rattle.octets.specs.Octets.{part, same}
-use Rattle.octets.proofs.Tests.{and-true, and-false}
 use Rattle.octets.proofs.Parts.{length-part}
 use Rattle.octets.proofs.Equality.{same-length}
 use Rattle.svsc.specs.Messages.{cookieBytes}
 use Rattle.rules.specs.Sizes.{partners, rowsPerPartner, rowCount, leasesSize}
-use Rattle.rules.specs.Searches.{firstRow, endRow}
-use Rattle.rules.specs.Tables.{cookieAt, expiry, cookieOf, live, liveWithId, holderCounts}
+use Rattle.rules.specs.Searches.{anyFrom, firstRow, endRow}
+use Rattle.rules.specs.Tables.{cookieAt, expiry, idOf, cookieOf, live, liveWithId, holderCounts}
 use Rattle.rules.specs.Leases.{idElsewhere, renewable, rowToRenew}
-use Rattle.rules.proofs.Searches.{first-none}
+use Rattle.rules.proofs.Searches.{first-none, none-passes, all-fail, any-passes, any-found}
 
--- Another row that is live and has the id; alike is what the code's test of that answers.
-module _ {alike : Bool} (ls : List ℕ) (now id row other : ℕ) (test : alike ≡ liveWithId ls now id other) where
-  pub not-alike : not alike ≡ true → false ≡ not (eqb other row) && liveWithId ls now id other
-  not-alike e = rw (← test, not-true alike e, and-false (not (eqb other row)))
+-- Another live row with the id of row r stands before it or behind it; before and behind are what the code's searches answer.
+module _ (ls : List ℕ) (now r : ℕ) {id : ℕ} {before : Bool} (own : id ≡ idOf ls r) (r< : r < rowCount) (lower : before ≡ anyFrom (liveWithId ls now id) 0 (r - 0)) where
+  abbrev named : ℕ → Bool
+  named = liveWithId ls now id
 
-  pub by-row : not alike ≡ false → not (eqb other row) ≡ not (eqb other row) && liveWithId ls now id other
-  by-row e = rw (← test, not-false alike e, and-true (not (eqb other row)))
+  abbrev another : ℕ → Bool
+  another k = not (eqb k r) && named k
+
+  is-another : (k : ℕ) → k < rowCount → (k ≡ r → ⊥) → named k ≡ true → anyFrom another 0 rowCount ≡ true
+  is-another k k< n h = any-passes another 0 rowCount k (omega arith) k< (rw (ne-eqb k r n) h)
+
+  pub stands-before : before ≡ true → true ≡ idElsewhere ls now r
+  unfolding idElsewhere
+  stands-before e =
+      let k = any-found named 0 (r - 0) (sym lower ∙ e) in
+      rw (← own) (sym (is-another (k .0) (omega (arith, k .2)) (λ s. omega (arith, k .2)) (k .3)))
+
+  pub stands-behind : {behind : Bool} → before ≡ false → behind ≡ anyFrom named (r + 1) (rowCount - (r + 1)) → behind ≡ idElsewhere ls now r
+  unfolding idElsewhere
+  stands-behind e higher = higher ∙ rw (← own) (go (anyFrom named (r + 1) (rowCount - (r + 1))) refl)
+    where
+      none-else : anyFrom named (r + 1) (rowCount - (r + 1)) ≡ false → (k : ℕ) → k < rowCount → Dec (k < r) → Dec (k ≡ r) → another k ≡ false
+      none-else h k k< l (yes s) = rw (eq-eqb k r s)
+      none-else h k k< (yes l) (no s) = rw (ne-eqb k r s) (none-passes named 0 (r - 0) (sym lower ∙ e) k (omega arith) (omega arith))
+      none-else h k k< (no l) (no s) = rw (ne-eqb k r s) (none-passes named (r + 1) (rowCount - (r + 1)) h k (omega arith) (omega arith))
+
+      go : (t : Bool) → anyFrom named (r + 1) (rowCount - (r + 1)) ≡ t → t ≡ anyFrom another 0 rowCount
+      go true h =
+          let k = any-found named (r + 1) (rowCount - (r + 1)) h in
+          sym (is-another (k .0) (omega (arith, k .2)) (λ s. omega (arith, k .1)) (k .3))
+      go false h = sym (all-fail another 0 rowCount (λ k l u. none-else h k u (decLt k r) (ℕ-discrete k r)))
 
 -- A cookie of another length renews no row.
 pub no-cookie : (cs ls : List ℕ) (now p : ℕ) (cookie : List ℕ) {end : ℕ} → length ls ≡ leasesSize → p < partners → end ≡ endRow p

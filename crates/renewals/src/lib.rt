@@ -1,11 +1,11 @@
 // Which lease a request's cookie renews. A table of the right size and numbers in range are required: the relay's checks 1 and 3 come
 // before anything here is called, and no answer would serve where they fail.
 ghost use mathlib.Core.Path.{_≡_};
-ghost use mathlib.Core.Bool.{not, _&&_};
-ghost use Prim.Native.Nat.{_<_};
-ghost use lib.Dec.{eqb};
+ghost use mathlib.Core.Bool.{_&&_};
+ghost use Prim.Native.Nat.{_-_, _≤_, _<_};
 ghost use lib.ListN.{length};
 ghost use Rattle.rules.specs.Sizes.{partners, rowCount, leasesSize};
+ghost use Rattle.rules.specs.Searches.{anyFrom};
 ghost use Rattle.rules.specs.Tables.{live, liveWithId, holderCounts};
 ghost use Rattle.rules.specs.Leases.{idElsewhere, renewable, rowToRenew};
 
@@ -18,29 +18,29 @@ fn is_held(connections: &[u8], leases: &[u8], time: u64, row: usize) -> bool
     lease_table::is_live(leases, time, row) & holders::holder_counts(connections, row, holder)
 }
 
-// Whether this other row is live and has the id. Most aren't or haven't, so whether it is another is looked at last.
-fn is_another(leases: &[u8], time: u64, id: u32, row: usize, other: usize) -> bool
-    requires { ⌜ (length (now leases) ≡ leasesSize) × (other < rowCount) ⌝ }
-    ensures { λ r. ⌜ r ≡ (not (eqb other row) && liveWithId (now (leases .entry)) time id other) ⌝ }
+// Whether one of the rows from one up to another is live and has the id.
+fn any_with_id(leases: &[u8], time: u64, id: u32, from: usize, end: usize) -> bool
+    requires { ⌜ (length (now leases) ≡ leasesSize) × (end ≤ rowCount) ⌝ }
+    ensures { λ r. ⌜ r ≡ anyFrom (liveWithId (now (leases .entry)) time id) from (end - from) ⌝ }
 {
-    if !lease_table::is_live_with_id(leases, time, id, other) {
-        return false;
+    for row in from..end {
+        if lease_table::is_live_with_id(leases, time, id, row) {
+            return true;
+        }
     }
-    other != row
+    false
 }
 
-// Whether another live row, of any partner, has the row's id.
+// Whether another live row, of any partner, has the row's id: one before it or one behind it.
 fn id_elsewhere(leases: &[u8], time: u64, row: usize) -> bool
     requires { ⌜ (length (now leases) ≡ leasesSize) × (row < rowCount) ⌝ }
     ensures { λ r. ⌜ r ≡ idElsewhere (now (leases .entry)) time row ⌝ }
 {
     let id = lease_table::id_of(leases, row);
-    for other in 0..rules::ROW_COUNT {
-        if is_another(leases, time, id, row, other) {
-            return true;
-        }
+    if any_with_id(leases, time, id, 0, row) {
+        return true;
     }
-    false
+    any_with_id(leases, time, id, row + 1, rules::ROW_COUNT)
 }
 
 // Whether a row may be renewed by this cookie. The id comes last: it is looked for in all rows.

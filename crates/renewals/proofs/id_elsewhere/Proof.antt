@@ -1,70 +1,40 @@
--- `id_elsewhere`: whether one of all the rows passes is whether one of those that are left does.
-use Prim.Native.Nat.{_-_, _≤_}
-use mathlib.Core.Path.{_≡_, sym, _∙_}
-use mathlib.Core.Bool.{not, _&&_}
-use lib.Dec.{eqb}
-use Rattle.rules.specs.Sizes.{rowCount}
-use Rattle.rules.specs.Searches.{anyFrom}
-use Rattle.rules.specs.Tables.{liveWithId}
-use Rattle.rules.specs.Leases.{idElsewhere}
-use Rattle.lease_search.proofs.RowSearch.{any-hit, any-miss, any-none}
+-- `id_elsewhere`: a row before this one, or one behind it.
+use Rattle.renewals.proofs.Ways.{stands-before, stands-behind}
 use borrow.Author.Needs.{needs}
-use native.Mathlib.Omega.{arith}
 use Rattle.renewals.proofs.id_elsewhere.Statement.{statement}
 use Rattle.renewals.proofs.id_elsewhere.Tie as tie
 
-abbrev Inv-loop : tie.InvT-loop
-Inv-loop leases time row id other₀ other =
-    (other ≤ rowCount)
-    × (idElsewhere leases time row ≡ anyFrom (λ k. not (eqb k row) && liveWithId leases time id k) other (rowCount - other))
-
-abbrev μ-loop : tie.MeasureT-loop
-μ-loop leases time row id other₀ other = rowCount - other
-
-id-of-requires : tie.Need-id-of-requires Inv-loop μ-loop
+id-of-requires : tie.Need-id-of-requires
 id-of-requires c κs = search needs
 
-loop-holds : tie.Need-loop-holds Inv-loop μ-loop
-unfolding idElsewhere
-loop-holds c = (omega arith, rw (c .id-of .ensures))
+any-with-id-requires : tie.Need-any-with-id-requires
+any-with-id-requires c κs = search needs
 
-is-another-requires : tie.Need-is-another-requires Inv-loop μ-loop
-is-another-requires c κs = search needs
-
-returns : tie.Need-returns Inv-loop μ-loop
+returns : tie.Need-returns
 returns c =
-    let l = c .before .before .before .loop in
-    let row = c .before .before .loop-test .taken in
-    sym (l .inv .1 ∙ any-hit _ _ row (c .before .is-another .ensures) (c .if1 .taken))
+    let s = c .before .before .before .before in
+    stands-before (s .args .leases .now) (s .args .time) (s .args .row) (c .before .before .id-of .ensures) (s .pre .1) (c .before .any-with-id .ensures) (c .if1 .taken)
 
-add-other : tie.Need-add-other Inv-loop μ-loop
-add-other c = search needs
+add-any-with-id : tie.Need-add-any-with-id
+add-any-with-id c = search needs
 
-loop-less : tie.Need-loop-less Inv-loop μ-loop
-loop-less c = search needs
+any-with-id-requires-2 : tie.Need-any-with-id-requires-2
+any-with-id-requires-2 c κs = search needs
 
-loop-again : tie.Need-loop-again Inv-loop μ-loop
-loop-again c =
-    let l = c .before .before .before .loop in
-    let row = c .before .before .loop-test .taken in
-    (omega arith, l .inv .1 ∙ any-miss _ _ row (c .before .is-another .ensures) (c .if1 .left))
-
-returns-2 : tie.Need-returns-2 Inv-loop μ-loop
+returns-2 : tie.Need-returns-2
 returns-2 c =
-    let l = c .before .loop in
-    sym (l .inv .1 ∙ any-none _ _ (c .loop-test .left))
+    let e = c .before in
+    let s = e .before .before .before .before in
+    stands-behind (s .args .leases .now) (s .args .time) (s .args .row) (e .before .before .id-of .ensures) (s .pre .1) (e .before .any-with-id .ensures) (e .if1 .left)
+    (c .any-with-id2 .ensures)
 
 pub id-elsewhere-spec : {M : Type 1} → statement M
 id-elsewhere-spec =
     tie.close
     (tie.spec
-    Inv-loop
-    μ-loop
     id-of-requires
-    loop-holds
-    is-another-requires
+    any-with-id-requires
     returns
-    add-other
-    loop-less
-    loop-again
+    add-any-with-id
+    any-with-id-requires-2
     returns-2)
