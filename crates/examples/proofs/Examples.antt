@@ -3,7 +3,7 @@ use mathlib.Core.Path.{_≡_, refl}
 use mathlib.Core.List.{[], _∷_}
 use Rattle.examples.specs.Examples.{Holds, numbers, examples, order}
 use Rattle.examples.specs.Explained.{Told, explained}
-use Rattle.examples.specs.Renewals.{Comes, renewals}
+use Rattle.examples.specs.Renewals.{Comes, renewals, others, refused}
 
 pub worked-examples : Holds examples
 unfolding examples
@@ -27,6 +27,15 @@ all-pairs = refl
 pub leases-come : Comes renewals
 unfolding renewals
 leases-come = refl
+
+-- Live rows and rows from elsewhere; and requests that are refused, or renew nothing.
+pub others-come : Comes others
+unfolding others
+others-come = refl
+
+pub refused-come : Comes refused
+unfolding refused
+refused-come = refl
 
 -- Reasons, worked out by hand.
 pub reasons-told : Told explained

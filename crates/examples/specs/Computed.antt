@@ -5,7 +5,7 @@ use Rattle.allowance.specs.Bucket.{levelNow}
 use Rattle.allowance.specs.Meter.{after, entry, history}
 use Rattle.rules.specs.Searches.{firstFrom, anyFrom}
 use Rattle.rules.specs.Tables.{state, inSession, hasSession, expiry, idOf, cookieOf, live, liveWithId, holderCounts, bucketOf, clock, bucketBytes, records, fresh, sized}
-use Rattle.rules.specs.Leases.{leaseEnd, candidate, idTaken, firstFree, holdsRow, earlierSpare, spareRow, cookieTaken, idElsewhere, renewable, rowToRenew, renewOrGrant, decideLease, grant, renew, rowToExtend, releaseFrom, release}
+use Rattle.rules.specs.Leases.{leaseEnd, candidate, idTaken, firstFree, holdsRow, isEarlier, isEarliest, spareRow, cookieTaken, hasItsId, idElsewhere, renewable, rowToRenew, renewOrGrant, decideLease, grant, renew, rowToExtend, releaseFrom, release}
 use Rattle.rules.specs.Sessions.{clear, await, rowOfId, decideEstablish, join, establish, leave, endSession}
 use Rattle.rules.specs.Plans.{planOpen, planVersionAnswer, planLease, planExtension, planEstablish, planEnd, planData, planClose, planMessage, plan}
 use Rattle.rules.specs.Charges.{cost, price, callerLevel, charge}
@@ -25,7 +25,7 @@ unfolding state inSession hasSession expiry idOf cookieOf live liveWithId holder
 tables = tt
 
 unfoldable pub leases : Unit {0}
-unfolding leaseEnd candidate idTaken firstFree holdsRow earlierSpare spareRow cookieTaken idElsewhere renewable rowToRenew renewOrGrant decideLease grant renew rowToExtend releaseFrom release
+unfolding leaseEnd candidate idTaken firstFree holdsRow isEarlier isEarliest spareRow cookieTaken hasItsId idElsewhere renewable rowToRenew renewOrGrant decideLease grant renew rowToExtend releaseFrom release
 leases = tt
 
 unfoldable pub sessions : Unit {0}

@@ -5,8 +5,8 @@ use mathlib.Core.Path.{_≡_}
 use mathlib.Core.List.{List, [], _∷_, _++_, map}
 use lib.ListN.{drop, take, replicate}
 use Rattle.octets.specs.Octets.{bigEndian}
-use Rattle.rules.specs.Sizes.{nobody}
-use Rattle.rules.specs.Tables.{Tables, records, fresh}
+use Rattle.rules.specs.Sizes.{rowsPerPartner, nobody}
+use Rattle.rules.specs.Tables.{Tables, awaiting, opened, setState, leaseAt, records, fresh}
 use Rattle.rules.specs.Leases.{LeaseDecision, holdsLease, noSpareRow, cookieInUse, noFreeId, renewed, granted, decideLease, grant}
 use Rattle.rules.specs.Calls.{Call, message, closing, Outcome}
 use Rattle.rules.specs.Step.{step}
@@ -57,6 +57,11 @@ unfoldable pub back : Outcome
 unfolding computed random free first second held cut
 back = step cut (asksAt 9000)
 
+-- back while its lease still runs
+unfoldable pub soon : Outcome
+unfolding computed random free first second held cut
+soon = step cut (asksAt 300)
+
 unfoldable pub beside : Outcome
 unfolding computed random free first second held
 beside = step held (asksAt 300)
@@ -101,7 +106,31 @@ until time = bigEndian 8 time ++ (bigEndian 4 11 ++ (nobody ∷ 0 ∷ 0 ∷ 0 �
 unfoldable pub aged : List ℕ
 unfolding computed rows
 aged =
-    until 60 ++ (until 900 ++ (until 60 ++ (until 40 ++ (records 5 (until 60) ++ (until 40 ++ (records 6 (until 60) ++ drop 640 rows))))))
+    until 60 ++ (until 900 ++ (until 60 ++ (until 40 ++ (records 5 (until 60) ++ (until 40 ++ (records 6 (until 60) ++ drop (leaseAt rowsPerPartner) rows))))))
+
+-- all rows of the partner live, K in row 0
+unfoldable pub full : List ℕ
+unfolding computed rows
+full = withKept (records rowsPerPartner (until 900) ++ drop (leaseAt rowsPerPartner) rows) 0 900 7 nobody
+
+-- a row from elsewhere: an id of 2^26 or more, 1, 2 and 3 in bytes 13 to 15, and an end later than an hour from now
+unfoldable pub foreign : Outcome
+unfolding computed random free second rows
+foreign =
+    step
+    (record {
+      connections = free .connections;
+      leases = (bigEndian 8 9000 ++ (4 ∷ 0 ∷ 0 ∷ 7 ∷ nobody ∷ 1 ∷ 2 ∷ 3 ∷ kept)) ++ drop 40 rows;
+      allowances = free .allowances;
+    })
+    (asksAt 300)
+
+-- by a live row with K in which this holder stands: connection 2 is closed, 3 awaits the version answer, 8 is another partner's and open
+unfoldable pub named : ℕ → List ℕ
+unfolding computed random free second rows
+named holder =
+    shown
+    (decideLease (setState (setState (free .connections) 3 awaiting) 8 opened) (withKept rows 0 900 7 holder) 300 1 second kept)
 
 abbrev decides : List ℕ → ℕ → List ℕ → List ℕ
 decides ls now cookie = shown (decideLease (free .connections) ls now 1 second cookie)
@@ -125,4 +154,33 @@ renewals =
     ∷ row (decides several 300 kept) (1 ∷ 6 ∷ [])
     -- "Only row 1 live, rows 3 and 9 expired at 40, the others at 60: a new lease takes row 3."
     ∷ row (decides aged 300 []) (2 ∷ 3 ∷ 5 ∷ [])
+    ∷ []
+
+-- ---- rows that are live, or from elsewhere; and requests that are refused, or renew nothing
+
+unfoldable pub others : List Renewal
+unfolding computed random free first second held cut soon rows foreign named
+others =
+    -- back at 300, while the lease runs: the same, with expiry 3,900
+    row (take (soon .answer .replyLength) (soon .reply)) (3 ∷ 1 ∷ 0 ∷ 0 ∷ 0 ∷ 7 ∷ kept ++ bigEndian 8 3900)
+    ∷ row (take 40 (soon .tables .leases)) (bigEndian 8 3900 ++ (0 ∷ 0 ∷ 0 ∷ 7 ∷ 1 ∷ 0 ∷ 0 ∷ 0 ∷ kept))
+    -- "Ids of 2^26 or more in foreign tables are renewed as they stand"; bytes 13 to 15 stay
+    ∷ row (take 40 (foreign .tables .leases)) (bigEndian 8 3900 ++ (4 ∷ 0 ∷ 0 ∷ 7 ∷ 1 ∷ 1 ∷ 2 ∷ 3 ∷ kept))
+    -- "A holder that is closed, awaiting, of another partner, 64 or more, or 255 doesn't count."
+    ∷ row (named 0) (2 ∷ 1 ∷ 5 ∷ [])
+    ∷ row (named 2) (1 ∷ 0 ∷ [])
+    ∷ row (named 3) (1 ∷ 0 ∷ [])
+    ∷ row (named 8) (1 ∷ 0 ∷ [])
+    ∷ row (named 64) (1 ∷ 0 ∷ [])
+    ∷ []
+
+unfoldable pub refused : List Renewal
+unfolding computed random free second rows full
+refused =
+    -- "sixteen live rows give accepted 0 also to the owner of one of them", and so does a live row that the caller holds
+    row (decides full 300 kept) (0 ∷ [])
+    ∷ row (decides (grant (withKept rows 0 200 7 nobody) 3 900 11 (replicate 24 4) 1) 300 kept) (0 ∷ [])
+    -- K but for its last byte, and K in a row of another partner: a new row
+    ∷ row (decides (withKept rows 0 200 7 nobody) 300 (replicate 23 9 ++ (8 ∷ []))) (2 ∷ 1 ∷ 5 ∷ [])
+    ∷ row (decides (withKept rows rowsPerPartner 200 7 nobody) 300 kept) (2 ∷ 0 ∷ 5 ∷ [])
     ∷ []

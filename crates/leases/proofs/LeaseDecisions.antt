@@ -17,17 +17,17 @@ use Rattle.leases.specs.declared.FreeId.{FreeId}
 use Rattle.leases.specs.declared.FreeId.the-variants as free
 use Rattle.leases.specs.declared.LeaseDecision.{LeaseDecision as Decided}
 use Rattle.leases.specs.declared.LeaseDecision.the-variants as decided
-use Rattle.leases.specs.Leases.{foundId, freeId, meaning, renewOr}
+use Rattle.leases.specs.Leases.{foundId, freeId, meaning}
 
 -- ---- renewed, or new
 
 module _ (cs ls : List ℕ) (now p : ℕ) (cookie : List ℕ) {old end : ℕ} (search : old ≡ rowToRenew cs ls now p cookie) (last : end ≡ endRow p) (row id : ℕ) where
-  pub renews : old < end → (random : List ℕ) → renewed old ≡ renewOr cs ls now p cookie row id random
-  unfolding renewOr
+  pub renews : old < end → (random : List ℕ) → renewed old ≡ renewOrGrant cs ls now p cookie row id (randomCookie random)
+  unfolding renewOrGrant
   renews l random = rw (← search, ← last, lt-ltb old end l)
 
-  pub grants : end ≤ old → (random : List ℕ) → granted row id (randomCookie random) ≡ renewOr cs ls now p cookie row id random
-  unfolding renewOr
+  pub grants : end ≤ old → (random : List ℕ) → granted row id (randomCookie random) ≡ renewOrGrant cs ls now p cookie row id (randomCookie random)
+  unfolding renewOrGrant
   grants l random = rw (← search, ← last, le-ltb old end l)
 
 -- ---- the four conditions
@@ -64,9 +64,9 @@ module _ (cs ls : List ℕ) (now c : ℕ) (random asked : List ℕ) {held : Bool
             let full = none-found (ltb (firstFree ls now random) candidateCount) _ (ap foundId (sym e) ∙ looked) in
             rw (← holds, none, ← own, ← spare, ← last, lt-ltb row end room, ← given, ← used, unused, full)
 
-        pub renews-or-grants : {id : ℕ} {d : LeaseDecision} → found ≡ free.At id → d ≡ renewOr cs ls now p asked row id random
+        pub renews-or-grants : {id : ℕ} {d : LeaseDecision} → found ≡ free.At id → d ≡ renewOrGrant cs ls now p asked row id (randomCookie random)
             → d ≡ decideLease cs ls now c random asked
-        unfolding decideLease renewOrGrant freeId renewOr
+        unfolding decideLease freeId
         renews-or-grants {id} e result =
             let some = some-found (ltb (firstFree ls now random) candidateCount) _ id (ap foundId (sym e) ∙ looked) in
             result ∙ rw (← holds, none, ← own, ← spare, ← last, lt-ltb row end room, ← given, ← used, unused, some .0, some .1)

@@ -5,7 +5,6 @@ use mathlib.Core.List.{List}
 use lib.Dec.{ltb}
 use Rattle.octets.specs.Octets.{if_then_else_}
 use Rattle.rules.specs.Sizes.{candidateCount}
-use Rattle.rules.specs.Searches.{endRow}
 use Rattle.rules.specs.Leases as rules
 use Rattle.leases.specs.declared.FreeId.{FreeId}
 use Rattle.leases.specs.declared.FreeId.the-variants as free
@@ -30,9 +29,3 @@ meaning decision.CookieInUse random = rules.cookieInUse
 meaning decision.NoFreeId random = rules.noFreeId
 meaning (decision.Renewed row) random = rules.renewed row
 meaning (decision.Granted row id) random = rules.granted row id (rules.randomCookie random)
-
--- the lowest row of partner p that the cookie renews, or else a new lease with this row and id
-unfoldable pub renewOr : List ℕ → List ℕ → ℕ → ℕ → List ℕ → ℕ → ℕ → List ℕ → rules.LeaseDecision
-renewOr cs ls now p cookie row id random =
-    if ltb (rules.rowToRenew cs ls now p cookie) (endRow p) then rules.renewed (rules.rowToRenew cs ls now p cookie)
-    else rules.granted row id (rules.randomCookie random)

@@ -7,8 +7,8 @@ ghost use lib.ListN.{length};
 ghost use mathlib.Core.List.{List};
 ghost use Prim.Native.Nat.{ℕ};
 ghost use Rattle.rules.specs.Sizes.{partners, connectionCount, leasesSize, timeLimit, candidateCount, randomBytes};
-ghost use Rattle.rules.specs.Leases.{leaseEnd, candidate, decideLease};
-ghost use Rattle.leases.specs.Leases.{freeId, foundId, meaning, renewOr};
+ghost use Rattle.rules.specs.Leases.{leaseEnd, candidate, randomCookie, renewOrGrant, decideLease};
+ghost use Rattle.leases.specs.Leases.{freeId, foundId, meaning};
 
 // The first free candidate's id, or that none is free.
 pub enum FreeId {
@@ -64,7 +64,7 @@ fn renew_or_grant(
 ) -> LeaseDecision
     requires { ⌜ (length (now leases) ≡ leasesSize) × (partner < partners) ⌝ }
     ensures { λ r. ⌜ ((random : List ℕ) → meaning r random
-        ≡ renewOr (now (connections .entry)) (now (leases .entry)) time partner (now (cookie .entry)) row id random) ⌝ }
+        ≡ renewOrGrant (now (connections .entry)) (now (leases .entry)) time partner (now (cookie .entry)) row id (randomCookie random)) ⌝ }
 {
     let old = renewals::row_to_renew(connections, leases, time, partner, cookie);
     if old < lease_table::end_row(partner) {
@@ -104,7 +104,7 @@ pub fn decide_lease(
     }
 }
 
-// When a lease that is given or extended at a time ends. The allowance table is not read.
+// When a lease that is given, renewed or extended at a time ends. The allowance table is not read.
 pub fn lease_end(allowances: &[u8], time: u64) -> u64
     requires { ⌜ time < timeLimit ⌝ }
     ensures { λ r. ⌜ r ≡ leaseEnd (now (allowances .entry)) time ⌝ }

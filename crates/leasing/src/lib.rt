@@ -9,7 +9,7 @@ ghost use Rattle.rules.specs.Tables.{lent};
 ghost use Rattle.rules.specs.Sizes.{rowCount, randomBytes, leastBuffer};
 ghost use Rattle.rules.specs.Leases.{renewed, granted, randomCookie, decideLease};
 ghost use Rattle.rules.specs.Plans.{replyOnly, planLease, planExtension, refuseLease};
-ghost use Rattle.svsc.specs.Messages.{LeaseGranted, encode};
+ghost use Rattle.svsc.specs.Messages.{cookieBytes, LeaseGranted, encode};
 ghost use Rattle.answers.specs.Applied.{handled, applied};
 ghost use Rattle.leasing.specs.Asked.{Leasable};
 use answers::Answer;
@@ -17,7 +17,7 @@ use leases::LeaseDecision;
 
 // Answers with a lease.
 fn tell(reply: &mut [u8], id: u32, cookie: &[u8], until: u64) -> Answer
-    requires { ⌜ (leastBuffer ≤ length (now reply)) × (length (now cookie) ≡ 24) ⌝ }
+    requires { ⌜ (leastBuffer ≤ length (now reply)) × (length (now cookie) ≡ cookieBytes) ⌝ }
     ensures { λ r. ⌜ ((cs ls relay : List ℕ) → handled r cs ls (now (reply .exit)) relay
         ≡ applied (replyOnly cs ls (encode (LeaseGranted id (now (cookie .entry)) until))) (now (reply .entry)) relay) ⌝ }
 {

@@ -16,7 +16,7 @@ use Rattle.svsc.specs.Messages.{cookieBytes}
 use Rattle.rules.specs.Sizes.{partners, rowsPerPartner, rowCount, leasesSize}
 use Rattle.rules.specs.Searches.{anyFrom, firstRow, endRow}
 use Rattle.rules.specs.Tables.{cookieAt, expiry, idOf, cookieOf, live, liveWithId, holderCounts}
-use Rattle.rules.specs.Leases.{idElsewhere, renewable, rowToRenew}
+use Rattle.rules.specs.Leases.{hasItsId, idElsewhere, renewable, rowToRenew}
 use Rattle.rules.proofs.Searches.{first-none, none-passes, all-fail, any-passes, any-found}
 
 -- Another live row with the id of row r stands before it or behind it; before and behind are what the code's searches answer.
@@ -24,32 +24,29 @@ module _ (ls : List ℕ) (now r : ℕ) {id : ℕ} {before : Bool} (own : id ≡ 
   abbrev named : ℕ → Bool
   named = liveWithId ls now id
 
-  abbrev another : ℕ → Bool
-  another k = not (eqb k r) && named k
-
-  is-another : (k : ℕ) → k < rowCount → (k ≡ r → ⊥) → named k ≡ true → anyFrom another 0 rowCount ≡ true
-  is-another k k< n h = any-passes another 0 rowCount k (omega arith) k< (rw (ne-eqb k r n) h)
+  is-another : (k : ℕ) → k < rowCount → (k ≡ r → ⊥) → named k ≡ true → true ≡ idElsewhere ls now r
+  unfolding idElsewhere hasItsId
+  is-another k k< n h = sym (any-passes (hasItsId ls now r) 0 rowCount k (omega arith) k< (rw (ne-eqb k r n, ← own) h))
 
   pub stands-before : before ≡ true → true ≡ idElsewhere ls now r
-  unfolding idElsewhere
   stands-before e =
       let k = any-found named 0 (r - 0) (sym lower ∙ e) in
-      rw (← own) (sym (is-another (k .0) (omega (arith, k .2)) (λ s. omega (arith, k .2)) (k .3)))
+      is-another (k .0) (omega (arith, k .2)) (λ s. omega (arith, k .2)) (k .3)
 
   pub stands-behind : {behind : Bool} → before ≡ false → behind ≡ anyFrom named (r + 1) (rowCount - (r + 1)) → behind ≡ idElsewhere ls now r
-  unfolding idElsewhere
-  stands-behind e higher = higher ∙ rw (← own) (go (anyFrom named (r + 1) (rowCount - (r + 1))) refl)
+  unfolding idElsewhere hasItsId
+  stands-behind e higher = higher ∙ go (anyFrom named (r + 1) (rowCount - (r + 1))) refl
     where
-      none-else : anyFrom named (r + 1) (rowCount - (r + 1)) ≡ false → (k : ℕ) → k < rowCount → Dec (k < r) → Dec (k ≡ r) → another k ≡ false
+      none-else : anyFrom named (r + 1) (rowCount - (r + 1)) ≡ false → (k : ℕ) → k < rowCount → Dec (k < r) → Dec (k ≡ r) → hasItsId ls now r k ≡ false
       none-else h k k< l (yes s) = rw (eq-eqb k r s)
-      none-else h k k< (yes l) (no s) = rw (ne-eqb k r s) (none-passes named 0 (r - 0) (sym lower ∙ e) k (omega arith) (omega arith))
-      none-else h k k< (no l) (no s) = rw (ne-eqb k r s) (none-passes named (r + 1) (rowCount - (r + 1)) h k (omega arith) (omega arith))
+      none-else h k k< (yes l) (no s) = rw (ne-eqb k r s, ← own) (none-passes named 0 (r - 0) (sym lower ∙ e) k (omega arith) (omega arith))
+      none-else h k k< (no l) (no s) = rw (ne-eqb k r s, ← own) (none-passes named (r + 1) (rowCount - (r + 1)) h k (omega arith) (omega arith))
 
-      go : (t : Bool) → anyFrom named (r + 1) (rowCount - (r + 1)) ≡ t → t ≡ anyFrom another 0 rowCount
+      go : (t : Bool) → anyFrom named (r + 1) (rowCount - (r + 1)) ≡ t → t ≡ idElsewhere ls now r
       go true h =
           let k = any-found named (r + 1) (rowCount - (r + 1)) h in
-          sym (is-another (k .0) (omega (arith, k .2)) (λ s. omega (arith, k .1)) (k .3))
-      go false h = sym (all-fail another 0 rowCount (λ k l u. none-else h k u (decLt k r) (ℕ-discrete k r)))
+          is-another (k .0) (omega (arith, k .2)) (λ s. omega (arith, k .1)) (k .3)
+      go false h = sym (all-fail (hasItsId ls now r) 0 rowCount (λ k l u. none-else h k u (decLt k r) (ℕ-discrete k r)))
 
 -- A cookie of another length renews no row.
 pub no-cookie : (cs ls : List ℕ) (now p : ℕ) (cookie : List ℕ) {end : ℕ} → length ls ≡ leasesSize → p < partners → end ≡ endRow p

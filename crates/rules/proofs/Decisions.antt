@@ -1,4 +1,4 @@
--- What a decision says: a lease that is granted, an extension's row, a session that is established. Assumes nothing.
+-- What a decision says: a lease that is renewed or granted, an extension's row, a session that is established. Assumes nothing.
 use Prim.Native.Nat.{ℕ, _≤_, _<_}
 use mathlib.Core.Path.{_≡_, refl, sym, ap, _∙_}
 use mathlib.Core.Logic.{_≢_}
@@ -13,7 +13,7 @@ use Rattle.octets.proofs.Tests.{both-left, both-right}
 use Rattle.rules.specs.Sizes.{rowsPerPartner, candidateCount, idLimit}
 use Rattle.rules.specs.Searches.{firstFrom, firstRow, endRow, firstOwn}
 use Rattle.rules.specs.Tables.{partnerOf, ownerOf, isOpen, hasSession, live, liveWithId, holder, cookieOf, holderCounts}
-use Rattle.rules.specs.Leases.{LeaseDecision, holdsLease, noSpareRow, cookieInUse, noFreeId, renewed, granted, holdsRow, earlierSpare, spareRow, cookieTaken, randomCookie, candidate, idTaken, firstFree, renewable, rowToRenew, renewOrGrant, decideLease, rowToExtend}
+use Rattle.rules.specs.Leases.{LeaseDecision, holdsLease, noSpareRow, cookieInUse, noFreeId, renewed, granted, holdsRow, isEarliest, spareRow, cookieTaken, randomCookie, candidate, idTaken, firstFree, renewable, rowToRenew, renewOrGrant, decideLease, rowToExtend}
 use Rattle.rules.specs.Sessions.{refusedWith, establishedWith, rowOfId, decideEstablish}
 use Rattle.rules.specs.Effects.{isAccepted}
 use Rattle.rules.proofs.Searches.{first-low, first-passes, first-found, first-none, first-is}
@@ -67,19 +67,15 @@ pub record Granted (ls : List ℕ) (now c : ℕ) (random : List ℕ) (row id : �
   pub row-is : row ≡ spareRow ls now (partnerOf c)
   pub id-is : id ≡ candidate random (firstFree ls now random)
   pub found : firstFree ls now random < candidateCount
-  pub spare : live ls now row ≡ false
   pub id-free : idTaken ls now id ≡ false
   pub id-small : id < idLimit
   pub cookie-is : cookie ≡ randomCookie random
 
 module _ (ls : List ℕ) (now c : ℕ) (random : List ℕ) where
   found-spare : ltb (spareRow ls now (partnerOf c)) (endRow (partnerOf c)) ≡ true
-      → Own (partnerOf c) (spareRow ls now (partnerOf c)) × (live ls now (spareRow ls now (partnerOf c)) ≡ false)
+      → Own (partnerOf c) (spareRow ls now (partnerOf c))
   unfolding spareRow
-  found-spare h =
-      let f : ℕ → Bool = λ r. not (live ls now r) && not (earlierSpare ls now (partnerOf c) r) in
-      let l = ltb-true (firstOwn (partnerOf c) f) (endRow (partnerOf c)) h in
-      (own-row (partnerOf c) f l, not-true _ (both-left _ _ (own-passes (partnerOf c) f l)))
+  found-spare h = own-row (partnerOf c) (isEarliest ls now (partnerOf c)) (ltb-true _ (endRow (partnerOf c)) h)
 
   found-id : ltb (firstFree ls now random) candidateCount ≡ true → idTaken ls now (candidate random (firstFree ls now random)) ≡ false
   unfolding firstFree
@@ -93,11 +89,16 @@ module _ (ls : List ℕ) (now c : ℕ) (random : List ℕ) where
   candidate-small k = mod-lt _ (lit< tt)
 
   module _ (cs cookie : List ℕ) where
+    -- the last step, where all conditions hold
+    abbrev pub accepted : LeaseDecision
+    accepted =
+        renewOrGrant cs ls now (partnerOf c) cookie (spareRow ls now (partnerOf c)) (candidate random (firstFree ls now random)) (randomCookie random)
+
     -- what an accepted request has passed
     record Accepting (d : LeaseDecision) : Type 0 where
       spare : ltb (spareRow ls now (partnerOf c)) (endRow (partnerOf c)) ≡ true
       free : ltb (firstFree ls now random) candidateCount ≡ true
-      last : renewOrGrant cs ls now c random cookie ≡ d
+      last : accepted ≡ d
 
     accepting : (d : LeaseDecision) → isAccepted d ≡ true → decideLease cs ls now c random cookie ≡ d → Accepting d
     unfolding decideLease
@@ -140,13 +141,11 @@ module _ (ls : List ℕ) (now c : ℕ) (random : List ℕ) where
         let row-is : spareRow ls now (partnerOf c) ≡ row = cc new in
         let id-is : candidate random (firstFree ls now random) ≡ id = cc new in
         let cookie-is : randomCookie random ≡ drawn = cc new in
-        let found = found-spare (a .spare) in
         record {
-          own = rw (← row-is) (found .0);
+          own = rw (← row-is) (found-spare (a .spare));
           row-is = sym row-is;
           id-is = sym id-is;
           found = ltb-true (firstFree ls now random) candidateCount (a .free);
-          spare = rw (← row-is) (found .1);
           id-free = rw (← id-is) (found-id (a .free));
           id-small = rw (← id-is) (candidate-small (firstFree ls now random));
           cookie-is = sym cookie-is;

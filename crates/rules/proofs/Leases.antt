@@ -5,7 +5,6 @@ use mathlib.Core.Logic.{_↔_, _≢_}
 use mathlib.Core.Bool.{Bool, true, false, not, _&&_, true≢false, false≢true}
 use mathlib.Core.List.{List}
 use native.Mathlib.Omega.{arith}
-use native.Mathlib.Decide.{ℕ-discrete, decLt}
 use lib.Dec.{eqb, ltb}
 use borrow.Author.Tests.{eq-eqb, ne-eqb, eqb-true, lt-ltb, le-ltb, ltb-true, ltb-false, not-true, not-false}
 use Rattle.octets.specs.Octets.{if_then_else_, same}
@@ -14,14 +13,14 @@ use Rattle.octets.proofs.Equality.{same-eq, same-refl}
 use Rattle.rules.specs.Sizes.{rowsPerPartner, rowCount, candidateCount}
 use Rattle.rules.specs.Searches.{firstFrom, firstRow, endRow, firstOwn, anyOwn}
 use Rattle.rules.specs.Tables.{partnerOf, ownerOf, hasSession, expiry, live, liveWithId, idOf, holder, cookieOf, holderCounts}
-use Rattle.rules.specs.Leases.{LeaseDecision, holdsLease, noSpareRow, cookieInUse, noFreeId, renewed, granted, holdsRow, earlierSpare, spareRow, cookieTaken, randomCookie, candidate, idTaken, firstFree, idElsewhere, renewable, rowToRenew, renewOrGrant, decideLease, rowToExtend}
+use Rattle.rules.specs.Leases.{LeaseDecision, holdsLease, noSpareRow, cookieInUse, noFreeId, renewed, granted, holdsRow, isEarlier, isEarliest, spareRow, cookieTaken, randomCookie, candidate, idTaken, firstFree, hasItsId, idElsewhere, renewable, rowToRenew, renewOrGrant, decideLease, rowToExtend}
 use Rattle.rules.specs.Sessions.{refusedWith, rowOfId, decideEstablish}
 use Rattle.rules.specs.Reasons.{conditionOf}
 use Rattle.rules.specs.Effects.{HoldsNone, HasSpare, NewCookie, FreeCandidate, LeaseConditions, isAccepted, EarliestSpare, FirstFree, Renewable, LowestRenewable, LowestOwn, Extendable, Statuses}
 use Rattle.rules.specs.Explained.{FirstFailing}
-use Rattle.rules.proofs.Exactly.{eq-exactly, lt-exactly, not-exactly, and-exactly}
+use Rattle.rules.proofs.Exactly.{refuted, not-lt, eq-exactly, lt-exactly, not-exactly, false-exactly, and-exactly}
 use Rattle.rules.proofs.Searches.{first-passes, first-below, none-passes, all-fail, first-found, first-none, any-passes, any-found}
-use Rattle.rules.proofs.Decisions.{is-renewed, is-granted, own-row, own-found, own-none, own-passes, own-is}
+use Rattle.rules.proofs.Decisions.{accepted, is-renewed, is-granted, own-row, own-found, own-none, own-passes, own-is}
 
 -- ---- tests, and what they say
 
@@ -56,103 +55,97 @@ no-id ls now id r f = go (live ls now r) refl
 -- ---- the row of a new lease
 
 module _ (ls : List ℕ) (now p : ℕ) where
-  abbrev spare-test : ℕ → Bool
-  spare-test r = not (live ls now r) && not (earlierSpare ls now p r)
+  -- "among those not live"
+  abbrev Spare : ℕ → Type 0
+  Spare k = (ownerOf k ≡ p) × (live ls now k ≡ false)
 
-  abbrev earlier-test : ℕ → ℕ → Bool
-  earlier-test r k = not (live ls now k) && ltb (expiry ls k) (expiry ls r)
+  earlier-exactly : (r k : ℕ) → (isEarlier ls now r k ≡ true) ↔ ((live ls now k ≡ false) × (expiry ls k < expiry ls r))
+  unfolding isEarlier
+  earlier-exactly r k = and-exactly _ _ (false-exactly (live ls now k)) (lt-exactly (expiry ls k) (expiry ls r))
 
-  -- none is earlier than the earliest, and where none is, it is one
-  none-earlier : (r : ℕ) → earlierSpare ls now p r ≡ false
-      → (k : ℕ) → ownerOf k ≡ p → live ls now k ≡ false → expiry ls r ≤ expiry ls k
-  unfolding earlierSpare
-  none-earlier r h k o l =
-      let fails : ltb (expiry ls k) (expiry ls r) ≡ false =
-      sym (rw l) ∙ none-passes (earlier-test r) (firstRow p) rowsPerPartner h k (omega arith) (omega arith) in
-      ltb-false (expiry ls k) (expiry ls r) fails
+  none-earlier : (r : ℕ) → (not (anyOwn p (isEarlier ls now r)) ≡ true) ↔ ((k : ℕ) → Spare k → expiry ls r ≤ expiry ls k)
+  none-earlier r = (
+    (λ h k s.
+        let fails = none-passes (isEarlier ls now r) (firstRow p) rowsPerPartner (not-true _ h) k (omega (arith, s .0)) (omega (arith, s .0)) in
+        not-lt (λ l. true≢false (sym (earlier-exactly r k .1 (s .1, l)) ∙ fails))),
+    (λ f.
+        rw
+        (all-fail (isEarlier ls now r) (firstRow p) rowsPerPartner
+        (λ k l u.
+        refuted (isEarlier ls now r k) (λ e. let q = earlier-exactly r k .0 e in omega (arith, q .1, f k (omega arith, q .0)))))),
+  )
 
-  earliest-passes : (r : ℕ) → live ls now r ≡ false → ((k : ℕ) → ownerOf k ≡ p → live ls now k ≡ false → expiry ls r ≤ expiry ls k)
-      → spare-test r ≡ true
-  unfolding earlierSpare
-  earliest-passes r l least = rw (l, all-fail (earlier-test r) (firstRow p) rowsPerPartner (λ k a b. go k (omega arith) (live ls now k) refl))
-    where
-      go : (k : ℕ) → ownerOf k ≡ p → (t : Bool) → live ls now k ≡ t → not t && ltb (expiry ls k) (expiry ls r) ≡ false
-      go k o true e = refl
-      go k o false e = le-ltb (expiry ls k) (expiry ls r) (least k o e)
-
-  abbrev Earliest : Type 0
-  Earliest = (k : ℕ) × (ownerOf k ≡ p) × (spare-test k ≡ true)
+  earliest-exactly : (r : ℕ) → (isEarliest ls now p r ≡ true) ↔ ((live ls now r ≡ false) × ((k : ℕ) → Spare k → expiry ls r ≤ expiry ls k))
+  unfolding isEarliest
+  earliest-exactly r = and-exactly _ _ (false-exactly (live ls now r)) (none-earlier r)
 
   -- Of rows that are not live one is the earliest: from any of them, earlier and earlier ones are at most as many as its expiry.
-  some-earliest : (n r : ℕ) → expiry ls r < n → ownerOf r ≡ p → live ls now r ≡ false → Earliest
-  unfolding earlierSpare
-  some-earliest zero r less o l = absurd (omega arith)
-  some-earliest (suc n) r less o l = go (earlierSpare ls now p r) refl (some-earliest n)
+  abbrev Earliest : Type 0
+  Earliest = (k : ℕ) × (ownerOf k ≡ p) × (isEarliest ls now p k ≡ true)
+
+  some-earliest : (n r : ℕ) → expiry ls r < n → Spare r → Earliest
+  unfolding isEarliest
+  some-earliest zero r less s = absurd (omega arith)
+  some-earliest (suc n) r less s = go (anyOwn p (isEarlier ls now r)) refl (some-earliest n)
     where
-      go : (t : Bool) → earlierSpare ls now p r ≡ t → ((k : ℕ) → expiry ls k < n → ownerOf k ≡ p → live ls now k ≡ false → Earliest)
-          → Earliest
-      go false e ih = (r, o, rw (l, e))
+      go : (t : Bool) → anyOwn p (isEarlier ls now r) ≡ t → ((k : ℕ) → expiry ls k < n → Spare k → Earliest) → Earliest
+      go false e ih = (r, s .0, rw (s .1, e))
       go true e ih =
-          let k = any-found (earlier-test r) (firstRow p) rowsPerPartner e in
-          let before = ltb-true (expiry ls (k .0)) (expiry ls r) (both-right (not (live ls now (k .0))) _ (k .3)) in
-          ih (k .0) (omega (arith, before)) (omega (arith, k .1, k .2)) (not-true _ (both-left _ _ (k .3)))
+          let k = any-found (isEarlier ls now r) (firstRow p) rowsPerPartner e in
+          let q = earlier-exactly r (k .0) .0 (k .3) in
+          ih (k .0) (omega (arith, q .1)) (omega (arith, k .1, k .2), q .0)
 
   -- The row by what it is: not live, no row that isn't live is earlier, and a lower one is later.
-  pub spare-is : (r : ℕ) → ownerOf r ≡ p → live ls now r ≡ false
-      → ((k : ℕ) → ownerOf k ≡ p → live ls now k ≡ false → expiry ls r ≤ expiry ls k)
-      → ((k : ℕ) → ownerOf k ≡ p → live ls now k ≡ false → k < r → expiry ls r < expiry ls k)
+  pub spare-is : (r : ℕ) → Spare r → ((k : ℕ) → Spare k → expiry ls r ≤ expiry ls k) → ((k : ℕ) → Spare k → k < r → expiry ls r < expiry ls k)
       → spareRow ls now p ≡ r
-  unfolding spareRow earlierSpare
-  spare-is r o l least lower =
-      own-is p spare-test r o (earliest-passes r l least) (λ k q below. go k q below (live ls now k) refl)
-    where
-      go : (k : ℕ) → ownerOf k ≡ p → k < r → (t : Bool) → live ls now k ≡ t → not t && not (earlierSpare ls now p k) ≡ false
-      go k q below true e = refl
-      go k q below false e =
-          let earlier : earlier-test k r ≡ true = rw (l, lt-ltb (expiry ls r) (expiry ls k) (lower k q e below)) in
-          rw (any-passes (earlier-test k) (firstRow p) rowsPerPartner r (omega arith) (omega arith) earlier)
+  unfolding spareRow
+  spare-is r s least lower =
+      own-is p (isEarliest ls now p) r (s .0) (earliest-exactly r .1 (s .1, least))
+      (λ k o below.
+      refuted (isEarliest ls now p k) (λ e. let q = earliest-exactly k .0 e in omega (arith, q .1 r s, lower k (o, q .0) below)))
 
   pub spare-none : ((k : ℕ) → ownerOf k ≡ p → live ls now k ≡ true) → spareRow ls now p ≡ endRow p
   unfolding spareRow
-  spare-none all = first-none spare-test (firstRow p) rowsPerPartner (λ k l u. rw (all k (omega arith)))
+  spare-none all =
+      first-none (isEarliest ls now p) (firstRow p) rowsPerPartner
+      (λ k l u. refuted (isEarliest ls now p k) (λ e. true≢false (sym (all k (omega arith)) ∙ earliest-exactly k .0 e .0)))
 
   pub earliest-spare : (c : ℕ) → p ≡ partnerOf c → spareRow ls now p < endRow p → EarliestSpare ls now c (spareRow ls now p)
   unfolding spareRow
   earliest-spare c e l =
-      let row = firstOwn p spare-test in
-      let passed = own-passes p spare-test l in
-      let is-spare = not-true _ (both-left (not (live ls now row)) _ passed) in
-      let least = none-earlier row (not-true _ (both-right (not (live ls now row)) _ passed)) in
+      let row = firstOwn p (isEarliest ls now p) in
+      let is = earliest-exactly row .0 (own-passes p (isEarliest ls now p) l) in
       record {
-        own = own-row p spare-test l .owner ∙ e;
-        spare = is-spare;
-        earliest = λ k o. least k (o ∙ sym e);
-        lowest = λ k o s q. not-below k (o ∙ sym e) (earliest-passes k s (λ j i t. rw q (least j i t))) (decLt k row);
+        own = own-row p (isEarliest ls now p) l .owner ∙ e;
+        spare = is .0;
+        earliest = λ k o s. is .1 k (o ∙ sym e, s);
+        lowest = λ k o s q.
+            let passes = earliest-exactly k .1 (s, λ j i. rw q (is .1 j i)) in
+            not-lt
+            (λ below.
+            true≢false (sym passes ∙ first-below (isEarliest ls now p) (firstRow p) rowsPerPartner k (omega (arith, o, e)) below));
       }
-    where
-      not-below : (k : ℕ) → ownerOf k ≡ p → spare-test k ≡ true → Dec (k < firstOwn p spare-test) → firstOwn p spare-test ≤ k
-      not-below k o passes (yes below) =
-          absurd (true≢false (sym passes ∙ first-below spare-test (firstRow p) rowsPerPartner k (omega arith) below))
-      not-below k o passes (no above) = omega arith
 
 -- ---- a row that is renewable
+
+its-id-exactly : (ls : List ℕ) (now r k : ℕ)
+    → (hasItsId ls now r k ≡ true) ↔ ((k ≢ r) × ((live ls now k ≡ true) × (idOf ls k ≡ idOf ls r)))
+unfolding hasItsId liveWithId
+its-id-exactly ls now r k =
+    and-exactly _ _ (not-exactly _ (eq-exactly k r)) (and-exactly _ _ ((λ h. h), (λ h. h)) (eq-exactly (idOf ls k) (idOf ls r)))
 
 -- "an id that no other live row has"
 alone-exactly : (ls : List ℕ) (now r : ℕ)
     → (not (idElsewhere ls now r) ≡ true) ↔ ((k : ℕ) → k < rowCount → k ≢ r → live ls now k ≡ true → idOf ls k ≢ idOf ls r)
-unfolding idElsewhere liveWithId
-alone-exactly ls now r =
-    let test : ℕ → Bool = λ k. not (eqb k r) && liveWithId ls now (idOf ls r) k in (
-      (λ h k k< n l e.
-          true≢false
-          (sym (rw (ne-eqb k r n, l, eq-eqb (idOf ls k) (idOf ls r) e)) ∙ none-passes test 0 rowCount (not-true _ h) k (omega arith) k<)),
-      (λ f. rw (all-fail test 0 rowCount (λ k l u. fails k (ℕ-discrete k r) (f k u)))),
-    )
-  where
-    fails : (k : ℕ) → Dec (k ≡ r) → (k ≢ r → live ls now k ≡ true → idOf ls k ≢ idOf ls r)
-        → not (eqb k r) && liveWithId ls now (idOf ls r) k ≡ false
-    fails k (yes e) f = rw (eq-eqb k r e)
-    fails k (no n) f = rw (ne-eqb k r n) (no-id ls now (idOf ls r) k (f n))
+unfolding idElsewhere
+alone-exactly ls now r = (
+  (λ h k k< n l e.
+      true≢false
+      (sym (its-id-exactly ls now r k .1 (n, (l, e))) ∙ none-passes (hasItsId ls now r) 0 rowCount (not-true _ h) k (omega arith) k<)),
+  (λ f.
+      rw (all-fail (hasItsId ls now r) 0 rowCount
+      (λ k l u. refuted (hasItsId ls now r k) (λ e. let q = its-id-exactly ls now r k .0 e in f k u (q .0) (q .1 .0) (q .1 .1))))),
+)
 
 pub renewable-exactly : (cs ls : List ℕ) (now : ℕ) (cookie : List ℕ) (r : ℕ)
     → (renewable cs ls now cookie r ≡ true) ↔ Renewable cs ls now cookie r
@@ -193,12 +186,11 @@ module _ (ls : List ℕ) (now c : ℕ) (random : List ℕ) where
   unfolding spareRow
   spare-exactly = (
     (λ h.
-        let l = ltb-true (firstOwn p (spare-test ls now p)) (endRow p) h in
-        let row = earliest-spare ls now p c refl l in
-        (firstOwn p (spare-test ls now p), row .own, row .spare)),
+        let row = earliest-spare ls now p c refl (ltb-true _ (endRow p) h) in
+        (firstOwn p (isEarliest ls now p), row .own, row .spare)),
     (λ q.
-        let k = some-earliest ls now p (suc (expiry ls (q .0))) (q .0) (omega arith) (q .1) (q .2) in
-        own-found p (spare-test ls now p) (k .0) (k .1) (k .2)),
+        let k = some-earliest ls now p (suc (expiry ls (q .0))) (q .0) (omega arith) (q .1, q .2) in
+        own-found p (isEarliest ls now p) (k .0) (k .1) (k .2)),
   )
 
   cookie-exactly : (not (cookieTaken ls now p (randomCookie random)) ≡ true) ↔ NewCookie ls now c random
@@ -275,7 +267,7 @@ module _ (ls : List ℕ) (now c : ℕ) (random : List ℕ) where
     abbrev Accepts : LeaseDecision → Type 0
     Accepts d = (conditionOf d ≡ 0) × (isAccepted d ≡ true)
 
-    last-accepts : Accepts (renewOrGrant cs ls now c random cookie)
+    last-accepts : Accepts (accepted ls now c random cs cookie)
     unfolding renewOrGrant
     last-accepts = go (ltb (rowToRenew cs ls now p cookie) (endRow p)) _ _ (refl, refl) (refl, refl)
       where
@@ -285,7 +277,7 @@ module _ (ls : List ℕ) (now c : ℕ) (random : List ℕ) where
 
     tested : ByTests (not (holdsRow ls now c)) (ltb (spareRow ls now p) (endRow p)) (not (cookieTaken ls now p (randomCookie random)))
         (ltb (firstFree ls now random) candidateCount)
-        (renewOrGrant cs ls now c random cookie)
+        (accepted ls now c random cs cookie)
         decision
     unfolding decideLease
     tested = by-tests (holdsRow ls now c) _ (cookieTaken ls now p (randomCookie random)) _ _ (last-accepts .0) (last-accepts .1)

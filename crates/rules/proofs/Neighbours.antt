@@ -14,7 +14,7 @@ use Rattle.octets.proofs.Tests.{both-left, both-right}
 use Rattle.rules.specs.Sizes.{rowCount, connectionBytes, leaseBytes, allowanceBytes}
 use Rattle.rules.specs.Searches.{anyFrom}
 use Rattle.rules.specs.Tables.{Tables, partnerOf, ownerOf, allowanceAt, idOf, liveWithId, bucketOf, clock}
-use Rattle.rules.specs.Leases.{idTaken, idElsewhere}
+use Rattle.rules.specs.Leases.{idTaken, hasItsId, idElsewhere}
 use Rattle.rules.specs.Calls.{Call, timeOf, callerOf}
 use Rattle.rules.specs.Charges.{charged, cost, price, charge}
 use Rattle.rules.specs.Checks.{check}
@@ -94,12 +94,13 @@ module _ (a b : Tables) (call : Call) (read : SameToRead (callerOf call) (timeOf
 
   -- a row of another partner is another row
   elsewhere-same : (r : ℕ) → Own (ownerOf r) → idElsewhere (a .leases) (timeOf call) r ≡ idElsewhere (b .leases) (timeOf call) r
-  unfolding idElsewhere
+  unfolding idElsewhere hasItsId
   elsewhere-same r o =
       let beside : ℕ → Bool = λ k. not (eqb k r) in
       let all : (k : ℕ) → ownerOf k ≢ callerOf call → beside k ≡ true = λ k n. rw (ne-eqb k r (λ e. n (ap ownerOf e ∙ o))) in
       same-live (timeOf call) (callerOf call) beside all (a .leases) (b .leases) (ids-alike beside all) (idOf (a .leases) r)
-      ∙ rw (← id-same Own (a .leases) (b .leases) rows r o)
+      ∙ ap (λ (id : ℕ). anyFrom (test (timeOf call) (callerOf call) beside all (b .leases) id) 0 rowCount)
+      (id-same Own (a .leases) (b .leases) rows r o)
 
   alike : Alike Own (λ i. Own (partnerOf (i / connectionBytes))) a b call
   alike = record {

@@ -12,7 +12,7 @@ use Rattle.octets.proofs.Tests.{both-left}
 use Rattle.rules.specs.Sizes.{rowsPerPartner, candidateCount, leaseBytes, nobody}
 use Rattle.rules.specs.Searches.{firstFrom, anyFrom, firstRow, endRow, firstOwn, anyOwn}
 use Rattle.rules.specs.Tables.{partnerOf, ownerOf, connectionAt, peerAt, keysAt, leaseAt, idAt, holderAt, cookieAt, opened, closed, state, peer, inSession, hasSession, expiry, idOf, holder, cookieOf, live, liveWithId, holderCounts}
-use Rattle.rules.specs.Leases.{randomCookie, candidate, idTaken, firstFree, holdsRow, earlierSpare, spareRow, cookieTaken, idElsewhere, renewable, rowToRenew, renewOrGrant, decideLease, rowToExtend, releaseFrom}
+use Rattle.rules.specs.Leases.{randomCookie, candidate, idTaken, firstFree, holdsRow, isEarlier, isEarliest, spareRow, cookieTaken, idElsewhere, renewable, rowToRenew, renewOrGrant, decideLease, rowToExtend, releaseFrom}
 use Rattle.rules.specs.Sessions.{rowOfId, decideEstablish}
 use Rattle.rules.specs.Bytes.{SameAt}
 use Rattle.rules.proofs.Searches.{first-turn, any-turn}
@@ -127,13 +127,13 @@ module _ (Q : ℕ → Type 0) where
       unfolding holdsRow
       holds-row-same = any-own-same _ _ (λ r o. rw (live-same now r o, holder-same r o))
 
-      earlier-spare-same : (r : ℕ) → Q (ownerOf r) → earlierSpare ls now (partnerOf c) r ≡ earlierSpare ms now (partnerOf c) r
-      unfolding earlierSpare
-      earlier-spare-same r q = any-own-same _ _ (λ k o. rw (live-same now k o, expiry-same k o, expiry-same r q))
+      any-earlier-same : (r : ℕ) → Q (ownerOf r) → anyOwn (partnerOf c) (isEarlier ls now r) ≡ anyOwn (partnerOf c) (isEarlier ms now r)
+      unfolding isEarlier
+      any-earlier-same r q = any-own-same _ _ (λ k o. rw (live-same now k o, expiry-same k o, expiry-same r q))
 
       spare-row-same : spareRow ls now (partnerOf c) ≡ spareRow ms now (partnerOf c)
-      unfolding spareRow
-      spare-row-same = first-own-same _ _ (λ r o. rw (live-same now r o, earlier-spare-same r o))
+      unfolding spareRow isEarliest
+      spare-row-same = first-own-same _ _ (λ r o. rw (live-same now r o, any-earlier-same r o))
 
       cookie-taken-same : (cookie : List ℕ) → cookieTaken ls now (partnerOf c) cookie ≡ cookieTaken ms now (partnerOf c) cookie
       unfolding cookieTaken

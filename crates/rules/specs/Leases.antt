@@ -9,7 +9,7 @@ use Rattle.rules.specs.Sizes.{rowsPerPartner, rowCount, nobody, leaseTer
 use Rattle.rules.specs.Searches.{firstFrom, anyFrom, firstRow, endRow, firstOwn, anyOwn}
 use Rattle.rules.specs.Tables.{partnerOf, expiry, idOf, holder, cookieOf, live, liveWithId, holderCounts, setExpiry, setId, setHolder, setCookie}
 
--- "expiry reading + 3,600": when a lease that is given or extended now ends. The first argument, the allowance table, is not read.
+-- "expiry reading + 3,600": when a lease that is given, renewed or extended now ends. The first argument, the allowance table, is not read.
 unfoldable pub leaseEnd : List ℕ → ℕ → ℕ
 leaseEnd al now = now + leaseTerm
 
@@ -35,21 +35,29 @@ firstFree ls now random = firstFrom (λ k. not (idTaken ls now (candidate random
 unfoldable pub holdsRow : List ℕ → ℕ → ℕ → Bool
 holdsRow ls now c = anyOwn (partnerOf c) (λ r. live ls now r && eqb (holder ls r) c)
 
--- a row of the partner that isn't live expires earlier than row r
-unfoldable pub earlierSpare : List ℕ → ℕ → ℕ → ℕ → Bool
-earlierSpare ls now p r = anyOwn p (λ k. not (live ls now k) && ltb (expiry ls k) (expiry ls r))
+-- row k isn't live, and expires earlier than row r
+unfoldable pub isEarlier : List ℕ → ℕ → ℕ → ℕ → Bool
+isEarlier ls now r k = not (live ls now k) && ltb (expiry ls k) (expiry ls r)
+
+-- row r isn't live, and no such row of the partner expires earlier
+unfoldable pub isEarliest : List ℕ → ℕ → ℕ → ℕ → Bool
+isEarliest ls now p r = not (live ls now r) && not (anyOwn p (isEarlier ls now r))
 
 -- 02, Item 2: "the row with the earliest expiry among those not live, the lowest on a tie", or the end of the partner's rows
 unfoldable pub spareRow : List ℕ → ℕ → ℕ → ℕ
-spareRow ls now p = firstOwn p (λ r. not (live ls now r) && not (earlierSpare ls now p r))
+spareRow ls now p = firstOwn p (isEarliest ls now p)
 
 -- "the cookie of a live row of the partner"
 unfoldable pub cookieTaken : List ℕ → ℕ → ℕ → List ℕ → Bool
 cookieTaken ls now p cookie = anyOwn p (λ r. live ls now r && same (cookieOf ls r) cookie)
 
--- another of all 128 rows is live and has the id of row r
+-- row k is another than row r, is live, and has its id
+unfoldable pub hasItsId : List ℕ → ℕ → ℕ → ℕ → Bool
+hasItsId ls now r k = not (eqb k r) && liveWithId ls now (idOf ls r) k
+
+-- another live row, of any partner, has the id of row r
 unfoldable pub idElsewhere : List ℕ → ℕ → ℕ → Bool
-idElsewhere ls now r = anyFrom (λ k. not (eqb k r) && liveWithId ls now (idOf ls r) k) 0 rowCount
+idElsewhere ls now r = anyFrom (hasItsId ls now r) 0 rowCount
 
 -- 02, Item 2: a row that "has that cookie, an expiry above 0, no counting holder while live, and an id that no other live row has"
 unfoldable pub renewable : List ℕ → List ℕ → ℕ → List ℕ → ℕ → Bool
@@ -69,22 +77,23 @@ pub data LeaseDecision : Type 0 where
   renewed : (row : ℕ) → LeaseDecision
   granted : (row id : ℕ) (cookie : List ℕ) → LeaseDecision
 
--- "If accepted, and a row of the partner has that cookie, .., the lowest such row is renewed .., and no new row is used."
-unfoldable pub renewOrGrant : List ℕ → List ℕ → ℕ → ℕ → List ℕ → List ℕ → LeaseDecision
-renewOrGrant cs ls now c random cookie =
-    let row = rowToRenew cs ls now (partnerOf c) cookie in
-    if ltb row (endRow (partnerOf c)) then renewed row
-    else granted (spareRow ls now (partnerOf c)) (candidate random (firstFree ls now random)) (randomCookie random)
+-- "If accepted, and a row of the partner has that cookie, .., the lowest such row is renewed .., and no new row is used." Else there is a new
+-- lease, in this row, with this id and this drawn cookie.
+unfoldable pub renewOrGrant : List ℕ → List ℕ → ℕ → ℕ → List ℕ → ℕ → ℕ → List ℕ → LeaseDecision
+renewOrGrant cs ls now p cookie row id drawn =
+    let old = rowToRenew cs ls now p cookie in
+    if ltb old (endRow p) then renewed old else granted row id drawn
 
 -- "accepted exactly if the connection holds no live row, the partner has a row that isn't live, the draw's bytes 0-23 aren't the cookie of
--- a live row of the partner, and one of the candidates is free". The cookie is the request's: no bytes if it has none, and no row has those.
+-- a live row of the partner, and one of the candidates is free". The cookie is the request's, no bytes if it has none: no row of a table of
+-- the right size has those.
 unfoldable pub decideLease : List ℕ → List ℕ → ℕ → ℕ → List ℕ → List ℕ → LeaseDecision
 decideLease cs ls now c random cookie =
     if holdsRow ls now c then holdsLease
     else if not (ltb (spareRow ls now (partnerOf c)) (endRow (partnerOf c))) then noSpareRow
     else if cookieTaken ls now (partnerOf c) (randomCookie random) then cookieInUse
     else if not (ltb (firstFree ls now random) candidateCount) then noFreeId
-    else renewOrGrant cs ls now c random cookie
+    else renewOrGrant cs ls now (partnerOf c) cookie (spareRow ls now (partnerOf c)) (candidate random (firstFree ls now random)) (randomCookie random)
 
 -- "The first free candidate goes into" that row, "with those 24 bytes as cookie, this holder, expiry reading + 3,600."
 unfoldable pub grant : List ℕ → ℕ → ℕ → ℕ → List ℕ → ℕ → List ℕ

@@ -131,9 +131,9 @@ module _ (ls : List ℕ) (now p : ℕ) where
       ⊎-elim
       (λ b. spare-none ls now p (λ k o. b .all-live k (omega arith) (omega arith)) ∙ sym (b .at-end))
       (λ b.
-      spare-is ls now p best (omega (arith, b .low, b .high)) (b .spare)
-      (λ k o t. b .least k (omega arith) (omega arith) t)
-      (λ k o t u. b .lower k (omega arith) t u))
+      spare-is ls now p best (omega (arith, b .low, b .high), b .spare)
+      (λ k s. b .least k (omega (arith, s .0)) (omega (arith, s .0)) (s .1))
+      (λ k s u. b .lower k (omega (arith, s .0)) (s .1) u))
 
   earliest-is : spareRow ls now p ≡ earliestFrom ls now (endRow p) (endRow p) (firstRow p) rowsPerPartner
   earliest-is =
