@@ -91,6 +91,16 @@ fn a_folder_that_cannot_be_written_is_found_before_anything_is_asked() {
     assert_eq!(fs::read_to_string(&cookie).expect("the file"), line(&COOKIE));
 }
 
+/// To open it would wait for a reader.
+#[test]
+fn a_lock_that_is_a_pipe_is_found_before_anything_is_asked() {
+    let (relay, scene) = (Scripted::new(), Scene::new("cookie_pipe"));
+    let lock = scene.folder.join("cookie.lock");
+    assert!(Command::new("mkfifo").arg(&lock).status().expect("mkfifo").success());
+    let ended = run(&relay.arguments(&scene.folder.join("copy"), &scene.cookie));
+    assert_refused(&ended, &relay, 1, "cookie.lock': it isn't a plain file");
+}
+
 /// A limit of what a file may hold stands for a disk without room.
 #[test]
 fn a_full_disk_is_found_before_anything_is_asked() {
