@@ -1,7 +1,7 @@
 //! Cookie files that can't be used, or that others can read, and two receivers with one.
 
 use std::fs::{self, Permissions};
-use std::os::unix::fs::{chown, MetadataExt, PermissionsExt};
+use std::os::unix::fs::{chown, symlink, MetadataExt, PermissionsExt};
 use std::path::Path;
 use std::process::{Command, Stdio};
 
@@ -56,6 +56,20 @@ fn a_file_that_is_no_cookie_is_left_alone() {
     let ended = run(&relay.arguments(&copy, &scene.folder));
     assert_refused(&ended, &relay, 2, "it isn't a plain file");
     assert_eq!(files(&scene.folder), 2, "the file to send and the other");
+}
+
+/// The received file would replace the cookie.
+#[test]
+fn a_link_to_the_place_of_the_received_file_is_an_error() {
+    let (relay, scene) = (Scripted::new(), Scene::new("cookie_link"));
+    let link = scene.folder.join("link");
+    fs::write(&scene.cookie, line(&COOKIE)).expect("a file");
+    symlink("cookie", &link).expect("a link");
+    let ended = run(&[&relay.arguments(&scene.cookie, &link)[..], &["--force"]].concat());
+    assert_eq!((ended.status, &*ended.stdout), (Some(2), ""), "{}", ended.stderr);
+    assert_eq!(ended.last_line(), "crondelith: FILE and the cookie file are the same");
+    assert!(relay.is_alone(), "the relay was asked");
+    assert_eq!(scene.kept(), line(&COOKIE));
 }
 
 #[test]
