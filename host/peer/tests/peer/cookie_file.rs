@@ -75,6 +75,7 @@ fn what_is_no_cookie_is_left_alone() {
         format!("{DIGITS}0"),
         format!("{DIGITS}00\n"),
         format!("{DIGITS}\n\n"),
+        format!("{DIGITS}\r\n0"),
         format!(" {DIGITS}"),
         format!("{DIGITS}\n{DIGITS}\n"),
         DIGITS.replace('f', "g"),
