@@ -61,8 +61,8 @@ crondelith_answer crondelith_close(uint8_t *connections, size_t connections_leng
  * check:     the number that the call would be answered with.
  * request:   of a call that would be done, 1 for a lease request (type 2), 2 for an establish request (type 6); else 0.
  * condition: of a lease 0 if it is accepted, or the first condition that fails: 1 the connection holds a live lease, 2 every row of
- *            the partner is live, 3 a live row of the partner has the drawn cookie, 4 no candidate for the id is free. Of an establish
- *            the status, 0 to 5. Else 0.
+ *            the partner is live, 3 a live row of the partner has the cookie that the random bytes begin with, 4 no candidate for
+ *            the id is free. A cookie in the request changes nothing of this. Of an establish the status, 0 to 5. Else 0.
  * charged:   1 where checks 1 to 8 pass and the call is a charged one; else 0.
  * headroom:  where charged is 1, what the partner has at that time minus what the call costs: negative by what is missing exactly
  *            if check is 9. Else 0.

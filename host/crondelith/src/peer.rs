@@ -199,10 +199,10 @@ fn send(id: u32, path: &Path, options: &Options) -> Outcome {
     Ok(())
 }
 
-/// Where a file is or will be, whichever way its folder is told. None if there is no such folder.
+/// Where a file is or will be, whichever way it is told. None if there is no such folder.
 fn place(path: &Path) -> Option<PathBuf> {
     let folder = path.parent().filter(|folder| !folder.as_os_str().is_empty()).unwrap_or(Path::new("."));
-    Some(folder.canonicalize().ok()?.join(path.file_name()?))
+    path.canonicalize().ok().or_else(|| Some(folder.canonicalize().ok()?.join(path.file_name()?)))
 }
 
 /// A file to send.

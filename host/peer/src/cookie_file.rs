@@ -187,13 +187,25 @@ fn tighten(file: &File) -> io::Result<Access> {
 fn lock(path: &Path) -> io::Result<File> {
     let mut name = OsString::from(path);
     name.push(".lock");
-    let file = OpenOptions::new().write(true).create(true).truncate(false).mode(PRIVATE).open(&name);
-    let file = file.map_err(|error| about(&format!("'{}'", name.display()), error))?;
-    // The umask may have left less, and the next receiver has to open it. This one holds it either way.
-    let _ = file.set_permissions(Permissions::from_mode(PRIVATE));
+    let file = lock_file(Path::new(&name)).map_err(|error| about(&format!("'{}'", name.display()), error))?;
     match file.try_lock() {
         Ok(()) => Ok(file),
         Err(fs::TryLockError::WouldBlock) => Err(io::Error::other("another receiver uses it")),
         Err(fs::TryLockError::Error(error)) => Err(error),
+    }
+}
+
+/// A new file, or the one that is there, which stays as it is: it may be another program's. A link could lead to anything, and
+/// opening a pipe would wait.
+fn lock_file(path: &Path) -> io::Result<File> {
+    match OpenOptions::new().write(true).create_new(true).mode(PRIVATE).open(path) {
+        Err(error) if error.kind() == io::ErrorKind::AlreadyExists => match path.symlink_metadata()?.is_file() {
+            true => OpenOptions::new().write(true).open(path),
+            false => Err(io::Error::other("it isn't a plain file")),
+        },
+        file => file.inspect(|file| {
+            // The umask may have left less, and the next receiver has to open it. This one holds it either way.
+            let _ = file.set_permissions(Permissions::from_mode(PRIVATE));
+        }),
     }
 }

@@ -75,6 +75,7 @@ fn what_is_no_cookie_is_left_alone() {
         format!("{DIGITS}0"),
         format!("{DIGITS}00\n"),
         format!("{DIGITS}\n\n"),
+        format!("{DIGITS}\r\n0"),
         format!(" {DIGITS}"),
         format!("{DIGITS}\n{DIGITS}\n"),
         DIGITS.replace('f', "g"),
@@ -192,4 +193,31 @@ fn one_receiver_at_a_time() {
     assert!(refused(&path).1.contains("another receiver uses it"), "also when it is another file");
     drop(first);
     assert_eq!(CookieFile::open(&path).expect("a cookie file").cookie(), Some(&COOKIE));
+}
+
+/// What has the lock's name already may be another's: its bytes and its mode stay.
+#[test]
+fn a_lock_that_is_there_stays_as_it_is() {
+    let (folder, path) = folder();
+    let lock = folder.path().join("cookie.lock");
+    fs::write(&lock, "another's").expect("a file");
+    fs::set_permissions(&lock, Permissions::from_mode(0o644)).expect("a mode");
+    CookieFile::open(&path).expect("a free name").keep(&COOKIE).expect("kept");
+    assert_eq!((fs::read_to_string(&lock).expect("the file"), mode(&lock)), ("another's".into(), 0o644));
+}
+
+#[test]
+fn only_a_plain_file_can_be_the_lock() {
+    let (folder, path) = folder();
+    let [lock, target] = ["cookie.lock", "target"].map(|name| folder.path().join(name));
+    fs::write(&target, "").expect("a file");
+    fs::set_permissions(&target, Permissions::from_mode(0o644)).expect("a mode");
+    for place in [Path::new("target"), Path::new("nothing"), Path::new("/dev/null")] {
+        symlink(place, &lock).expect("a link");
+        let (kind, why) = refused(&path);
+        assert!(kind != ErrorKind::InvalidData && why.contains("cookie.lock': it isn't a plain file"), "{why}");
+        fs::remove_file(&lock).expect("removed");
+    }
+    assert_eq!(mode(&target), 0o644);
+    assert_eq!(names(&folder), ["target"]);
 }

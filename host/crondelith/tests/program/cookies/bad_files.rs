@@ -1,7 +1,7 @@
 //! Cookie files that can't be used, or that others can read, and two receivers with one.
 
 use std::fs::{self, Permissions};
-use std::os::unix::fs::{chown, MetadataExt, PermissionsExt};
+use std::os::unix::fs::{chown, symlink, MetadataExt, PermissionsExt};
 use std::path::Path;
 use std::process::{Command, Stdio};
 
@@ -58,6 +58,20 @@ fn a_file_that_is_no_cookie_is_left_alone() {
     assert_eq!(files(&scene.folder), 2, "the file to send and the other");
 }
 
+/// The received file would replace the cookie.
+#[test]
+fn a_link_to_the_place_of_the_received_file_is_an_error() {
+    let (relay, scene) = (Scripted::new(), Scene::new("cookie_link"));
+    let link = scene.folder.join("link");
+    fs::write(&scene.cookie, line(&COOKIE)).expect("a file");
+    symlink("cookie", &link).expect("a link");
+    let ended = run(&[&relay.arguments(&scene.cookie, &link)[..], &["--force"]].concat());
+    assert_eq!((ended.status, &*ended.stdout), (Some(2), ""), "{}", ended.stderr);
+    assert_eq!(ended.last_line(), "crondelith: FILE and the cookie file are the same");
+    assert!(relay.is_alone(), "the relay was asked");
+    assert_eq!(scene.kept(), line(&COOKIE));
+}
+
 #[test]
 fn a_file_that_cannot_be_read_is_left_alone() {
     let (relay, scene) = (Scripted::new(), Scene::new("cookie_unreadable"));
@@ -89,6 +103,16 @@ fn a_folder_that_cannot_be_written_is_found_before_anything_is_asked() {
     fs::write(&cookie, line(&COOKIE)).expect("a file");
     refused("a new one can't be written beside it: Permission denied");
     assert_eq!(fs::read_to_string(&cookie).expect("the file"), line(&COOKIE));
+}
+
+/// To open it would wait for a reader.
+#[test]
+fn a_lock_that_is_a_pipe_is_found_before_anything_is_asked() {
+    let (relay, scene) = (Scripted::new(), Scene::new("cookie_pipe"));
+    let lock = scene.folder.join("cookie.lock");
+    assert!(Command::new("mkfifo").arg(&lock).status().expect("mkfifo").success());
+    let ended = run(&relay.arguments(&scene.folder.join("copy"), &scene.cookie));
+    assert_refused(&ended, &relay, 1, "cookie.lock': it isn't a plain file");
 }
 
 /// A limit of what a file may hold stands for a disk without room.
