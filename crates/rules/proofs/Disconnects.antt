@@ -10,7 +10,7 @@ use native.Mathlib.Decide.{ℕ-discrete}
 use lib.Dec.{ltb}
 use Rattle.svsc.specs.Messages.{VersionAnswer, typeOf, decode}
 use Rattle.rules.specs.Tables.{Tables, partnerOf}
-use Rattle.rules.specs.Leases.{LeaseDecision, holdsLease, noSpareRow, cookieInUse, noFreeId, renewed, granted, decideLease, rowToExtend}
+use Rattle.rules.specs.Leases.{LeaseDecision, decideLease, rowToExtend}
 use Rattle.rules.specs.Searches.{endRow}
 use Rattle.rules.specs.Sessions.{EstablishDecision, refusedWith, establishedWith, decideEstablish}
 use Rattle.rules.specs.Plans.{Plan, planOpen, planLease, planExtension, planEstablish, planEnd, planData, planClose}
@@ -22,7 +22,7 @@ use Rattle.rules.proofs.Checks.{from-peer}
 use Rattle.rules.proofs.Messages.{by-type}
 use Rattle.rules.proofs.MessageLaws.{answered-ok, answered-not-ok}
 use Rattle.rules.proofs.Answers.{is-done, done-passed}
-use Rattle.rules.proofs.Plans.{Each, kindOf, every-plan, by-test}
+use Rattle.rules.proofs.Plans.{Each, kindOf, every-plan, by-lease, by-test}
 
 module _ (tables : Tables) (now c n kind : ℕ) (other : kind ≢ 1) where
   abbrev Stays : Plan → Type 0
@@ -30,12 +30,7 @@ module _ (tables : Tables) (now c n kind : ℕ) (other : kind ≢ 1) where
 
   lease-stays : (d : LeaseDecision) → Stays (planLease tables now c d)
   unfolding planLease
-  lease-stays holdsLease = refl
-  lease-stays noSpareRow = refl
-  lease-stays cookieInUse = refl
-  lease-stays noFreeId = refl
-  lease-stays (renewed row) = refl
-  lease-stays (granted row id cookie) = refl
+  lease-stays d = by-lease Stays tables now c d refl (λ row e. refl) (λ row id cookie e. refl)
 
   establish-stays : (id : ℕ) (random : List ℕ) (d : EstablishDecision) → Stays (planEstablish tables c id random d)
   unfolding planEstablish

@@ -11,7 +11,7 @@ use Rattle.allowance.specs.Meter as meter
 use Rattle.rules.specs.Sizes.{connectionCount, leasesSize}
 use Rattle.rules.specs.Searches.{endRow}
 use Rattle.rules.specs.Tables.{Tables, partnerOf, idOf, clock}
-use Rattle.rules.specs.Leases.{LeaseDecision, holdsLease, noSpareRow, cookieInUse, noFreeId, renewed, granted, decideLease, leaseEnd, rowToExtend}
+use Rattle.rules.specs.Leases.{decideLease, leaseEnd, rowToExtend}
 use Rattle.rules.specs.Sessions.{EstablishDecision, refusedWith, establishedWith, decideEstablish}
 use Rattle.rules.specs.Calls.{Call, timeOf, connectionOf, Outcome}
 use Rattle.rules.specs.Charges.{received}
@@ -25,7 +25,7 @@ use Rattle.rules.proofs.Answers.{refused-leaves-all, is-done, done-pass
 use Rattle.rules.proofs.Decisions.{is-renewed, is-granted, is-extended}
 use Rattle.rules.proofs.Leases.{no-id, renewable-exactly}
 use Rattle.rules.proofs.Rows.{distinct-later, distinct-grant, distinct-renew, distinct-extend, distinct-release}
-use Rattle.rules.proofs.Plans.{Each, kindOf, every-plan, by-test}
+use Rattle.rules.proofs.Plans.{Each, kindOf, every-plan, by-lease, by-test}
 use Rattle.rules.proofs.Metered.{clock-takes-time}
 
 module _
@@ -41,20 +41,17 @@ module _
     unfolding planVersionAnswer
     answer-distinct ok = by-test Distinct (eqb ok 1) (λ h. d) (λ h. d)
 
-    module _ (random cookie : List ℕ) where
-      lease-distinct : (x : LeaseDecision) → decideLease cs ls now c random cookie ≡ x → Distinct (planLease tables now c x)
-      unfolding planLease
-      lease-distinct holdsLease e = d
-      lease-distinct noSpareRow e = d
-      lease-distinct cookieInUse e = d
-      lease-distinct noFreeId e = d
-      lease-distinct (renewed row) e =
-          let alone = renewable-exactly cs ls now cookie row .0 (is-renewed ls now c random cs cookie row e .passes) .id-alone in
-          distinct-renew ls now d row (leaseEnd al now) c (λ r r< n. no-id ls now (idOf ls row) r (alone r r< n))
-      lease-distinct (granted row id drawn) e =
-          let g = is-granted ls now c random cs cookie row id drawn e in
-          distinct-grant ls now d row (leaseEnd al now) id drawn c size (omega (arith, g .own .high)) (g .id-small) (g .id-free)
-          (rw (g .cookie-is) (length-part-most random 0 cookieBytes))
+    lease-distinct : (random cookie : List ℕ) → Distinct (planLease tables now c (decideLease cs ls now c random cookie))
+    unfolding planLease
+    lease-distinct random cookie =
+        by-lease Distinct tables now c (decideLease cs ls now c random cookie) d
+        (λ row e.
+        let alone = renewable-exactly cs ls now cookie row .0 (is-renewed ls now c random cs cookie row e .passes) .id-alone in
+        distinct-renew ls now d row (leaseEnd al now) c (λ r r< n. no-id ls now (idOf ls row) r (alone r r< n)))
+        (λ row id drawn e.
+        let g = is-granted ls now c random cs cookie row id drawn e in
+        distinct-grant ls now d row (leaseEnd al now) id drawn c size (omega (arith, g .own .high)) (g .id-small) (g .id-free)
+        (rw (g .cookie-is) (length-part-most random 0 cookieBytes)))
 
     extension-distinct : (cookie : List ℕ) → Distinct (planExtension tables now c cookie)
     unfolding planExtension
@@ -73,7 +70,7 @@ module _
     each-distinct n kind = record {
       open-plan = d;
       version-answer = λ t. answer-distinct;
-      lease = λ random cookie. lease-distinct random cookie (decideLease cs ls now c random cookie) refl;
+      lease = lease-distinct;
       extension = extension-distinct;
       establish-plan = λ id random long o. establish-distinct id random (decideEstablish cs ls now c id);
       end-plan = λ h. d;

@@ -6,7 +6,7 @@ use mathlib.Core.Bool.{Bool, true, false, not, _&&_, true≢false, false≢true}
 use mathlib.Core.List.{List}
 use native.Mathlib.Omega.{arith}
 use lib.Dec.{eqb, ltb}
-use borrow.Author.Tests.{eq-eqb, ne-eqb, eqb-true, lt-ltb, le-ltb, ltb-true, ltb-false, not-true, not-false}
+use borrow.Author.Tests.{eq-eqb, ne-eqb, eqb-true, lt-ltb, le-ltb, ltb-true, not-true, not-false}
 use Rattle.octets.specs.Octets.{if_then_else_, same}
 use Rattle.octets.proofs.Tests.{both-left, both-right}
 use Rattle.octets.proofs.Equality.{same-eq, same-refl}
@@ -19,7 +19,7 @@ use Rattle.rules.specs.Reasons.{conditionOf}
 use Rattle.rules.specs.Effects.{HoldsNone, HasSpare, NewCookie, FreeCandidate, LeaseConditions, isAccepted, EarliestSpare, FirstFree, Renewable, LowestRenewable, LowestOwn, Extendable, Statuses}
 use Rattle.rules.specs.Explained.{FirstFailing}
 use Rattle.rules.proofs.Exactly.{refuted, not-lt, eq-exactly, lt-exactly, not-exactly, false-exactly, and-exactly}
-use Rattle.rules.proofs.Searches.{first-passes, first-below, none-passes, all-fail, first-found, first-none, any-passes, any-found}
+use Rattle.rules.proofs.Searches.{first-passes, first-below, none-passes, all-fail, first-found, first-none, any-found}
 use Rattle.rules.proofs.Decisions.{accepted, is-renewed, is-granted, own-row, own-found, own-none, own-passes, own-is}
 
 -- ---- tests, and what they say

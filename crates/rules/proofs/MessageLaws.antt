@@ -13,7 +13,7 @@ use Rattle.octets.specs.Octets.{part, put}
 use Rattle.octets.proofs.Tests.{by-test}
 use Rattle.octets.proofs.Numbers.{length-bigEndian}
 use Rattle.octets.proofs.Parts.{length-part}
-use Rattle.svsc.specs.Messages.{Message, cookieBytes, VersionAnswer, LeaseRequest, LeaseRequestWithCookie, LeaseGranted, ExtensionRequest, ExtensionGranted, EstablishRequest, EstablishRefused, Established, EstablishNotification, SessionEnd, DataSend, Keepalive, encode, typeOf, decode}
+use Rattle.svsc.specs.Messages.{Message, cookieBytes, VersionAnswer, LeaseGranted, ExtensionRequest, ExtensionGranted, EstablishRequest, EstablishRefused, Established, EstablishNotification, SessionEnd, DataSend, Keepalive, encode, typeOf, decode}
 use Rattle.rules.specs.Sizes.{connectionCount, rowCount, randomBytes}
 use Rattle.rules.specs.Searches.{endRow}
 use Rattle.rules.specs.Tables.{Tables, partnerOf, connectionAt, opened, state, peer, inSession, hasSession, idOf, cookieAt, cookieOf}
@@ -27,7 +27,8 @@ use Rattle.rules.specs.Effects.{RepliedOnly, RelayedOnly, SentNothing, V
 use Rattle.rules.specs.Laws.{Accepted}
 use Rattle.rules.proofs.Checks.{Passed, passed, from-peer, random-length, has-session, is-permitted, open-permits}
 use Rattle.rules.proofs.Records.{byte-put}
-use Rattle.rules.proofs.Messages.{decode-type, end-read, data-read, lease-read, no-bytes, no-cookie}
+use Rattle.rules.proofs.Messages.{decode-type, end-read, data-read, no-bytes}
+use Rattle.rules.proofs.Plans.{lease-plan}
 use Rattle.rules.proofs.Answers.{is-done, done-passed}
 use Rattle.rules.proofs.Connections.{cleared-record, fresh-record, paired, end-clears-first, end-clears-second, all-keys}
 use Rattle.rules.proofs.Rows.{expiry-set, granted-row, renewed-row}
@@ -190,12 +191,9 @@ module _
     decision = decideLease cs ls now c random (part m 2 24)
 
     lease-outcome : typeOf m ≡ 2 → o ≡ done tables sent (planLease tables now c decision)
-    unfolding planMessage
+    unfolding plan
     lease-outcome t =
-        ⊎-elim
-        (λ d. outcome-of LeaseRequest d ∙ rw (no-cookie m d))
-        (λ d. outcome-of (LeaseRequestWithCookie (part m 2 24)) d)
-        (lease-read m (from-peer tables now c m random reply relay h) t)
+        is-done tables sent e ∙ ap (done tables sent) (lease-plan tables now c m random (from-peer tables now c m random reply relay h) t)
 
     until< : now + 3600 < 256 ^ 8
     until< = omega (arith, ok .in-limit)

@@ -1,5 +1,5 @@
--- "Neighbours share two things only: ids already live, and the clock": a call that finds its partner's records, the live ids and the clock
--- the same gives the same answer and buffers, and leaves its partner's records the same. Assumes nothing.
+-- "Neighbours share two things only: ids already live, and the clock": a call that finds its partner's records, the others' live ids and the
+-- clock the same gives the same answer and buffers, and leaves its partner's records the same. Assumes nothing.
 use Prim.Native.Nat.{ℕ, zero, suc, _+_, _/_, _≤_, _<_}
 use mathlib.Core.Path.{_≡_, refl, sym, ap, ap₂, _∙_}
 use mathlib.Core.Logic.{_≢_}

@@ -1,24 +1,25 @@
 -- What is shown of each kind of plan holds of the plan of every call that passed the first eight checks. Assumes nothing.
 use Prim.Native.Nat.{ℕ, suc}
 use mathlib.Core.Path.{_≡_, refl}
+use mathlib.Core.Logic.{⊎-elim}
 use mathlib.Core.Bool.{Bool, true, false, _||_}
 use mathlib.Core.Option.{Option, none, some}
 use mathlib.Core.List.{List, []}
 use lib.Dec.{eqb}
 use lib.ListN.{length}
 use borrow.Author.Tests.{eq-eqb}
-use Rattle.octets.specs.Octets.{if_then_else_}
-use Rattle.svsc.specs.Messages.{Message, ProtocolVersion, VersionAnswer, LeaseRequest, LeaseRequestWithCookie, LeaseRefused, LeaseGranted, ExtensionRequest, ExtensionRefused, ExtensionGranted, EstablishRequest, EstablishRefused, Established, EstablishNotification, SessionEnd, SessionEndNotification, DataSend, DataReceive, Keepalive, encode, typeOf, decode}
+use Rattle.octets.specs.Octets.{if_then_else_, part}
+use Rattle.svsc.specs.Messages.{Message, ProtocolVersion, VersionAnswer, LeaseRequest, LeaseRequestWithCookie, LeaseRefused, LeaseGranted, ExtensionRequest, ExtensionRefused, ExtensionGranted, EstablishRequest, EstablishRefused, Established, EstablishNotification, SessionEnd, SessionEndNotification, DataSend, DataReceive, Keepalive, encode, typeOf, decode, fromPeer}
 use Rattle.rules.specs.Sizes.{randomBytes}
 use Rattle.rules.specs.Tables.{Tables, opened, state, isOpen, hasSession}
-use Rattle.rules.specs.Leases.{decideLease}
+use Rattle.rules.specs.Leases.{LeaseDecision, holdsLease, noSpareRow, cookieInUse, noFreeId, renewed, granted, decideLease}
 use Rattle.rules.specs.Sessions.{decideEstablish}
 use Rattle.rules.specs.Calls.{Call, opening, message, closing, timeOf, connectionOf}
 use Rattle.rules.specs.Charges.{received}
-use Rattle.rules.specs.Plans.{Plan, doNothing, planOpen, planVersionAnswer, planLease, planExtension, planEstablish, planEnd, planData, planClose, planMessage, plan}
+use Rattle.rules.specs.Plans.{Plan, doNothing, refuseLease, planOpen, planVersionAnswer, planLease, planExtension, planEstablish, planEnd, planData, planClose, planMessage, plan}
 use Rattle.rules.specs.Checks.{permits, precheck}
 use Rattle.rules.proofs.Checks.{random-length, has-session, is-permitted, open-permits}
-use Rattle.rules.proofs.Messages.{decode-type, data-length}
+use Rattle.rules.proofs.Messages.{decode-type, data-length, lease-read, no-cookie}
 
 -- What is to be shown of each kind of plan, so that it holds of every one.
 pub record Each (P : Plan → Type 0) (tables : Tables) (now c received kind : ℕ) : Type 0 where
@@ -85,6 +86,26 @@ every-plan P tables (message now c m random reply relay) h each =
     (data-length m)
     (decode-type m)
 every-plan P tables (closing now c relay) h each = each .close-plan
+
+-- A message of type 2 asks for a lease, with the cookie behind its first two bytes: no bytes, if it has none.
+pub lease-plan : (tables : Tables) (now c : ℕ) (m random : List ℕ) → fromPeer m ≡ true → typeOf m ≡ 2
+    → planMessage tables now c random (decode m)
+    ≡ planLease tables now c (decideLease (tables .connections) (tables .leases) now c random (part m 2 24))
+unfolding planMessage
+lease-plan tables now c m random h t = ⊎-elim (λ d. rw (no-cookie m d) (rw d)) (λ d. rw d) (lease-read m h t)
+
+-- a lease: all that fail have one plan
+module _ (P : Plan → Type 0) (tables : Tables) (now c : ℕ) where
+  pub by-lease : (d : LeaseDecision) → P (refuseLease tables) → ((row : ℕ) → d ≡ renewed row → P (planLease tables now c (renewed row)))
+      → ((row id : ℕ) (cookie : List ℕ) → d ≡ granted row id cookie → P (planLease tables now c (granted row id cookie)))
+      → P (planLease tables now c d)
+  unfolding planLease
+  by-lease holdsLease r f g = r
+  by-lease noSpareRow r f g = r
+  by-lease cookieInUse r f g = r
+  by-lease noFreeId r f g = r
+  by-lease (renewed row) r f g = f row refl
+  by-lease (granted row id cookie) r f g = g row id cookie refl
 
 -- a test that decides between two plans
 pub by-test : {A : Type 0} (P : A → Type 0) (t : Bool) {a b : A} → (t ≡ true → P a) → (t ≡ false → P b) → P (if t then a else b)

@@ -34,7 +34,8 @@ use Rattle.rules.specs.Refusals.{Applies}
 use Rattle.rules.specs.Laws.{Accepted}
 use Rattle.rules.specs.Explained.{AsksDecision, LeaseNamed, EstablishNamed, LengthsOnly, credited, Credited, ShortBy, HeadroomExactly}
 use Rattle.rules.proofs.Records.{byte-part}
-use Rattle.rules.proofs.Messages.{by-type, no-cookie}
+use Rattle.rules.proofs.Messages.{by-type}
+use Rattle.rules.proofs.Plans.{lease-plan}
 use Rattle.rules.proofs.Checks.{none-applies, all-pass, at-most, check-verdict, Passed, passed, from-peer}
 use Rattle.rules.proofs.Answers.{answer-is-check, is-done, done-passed}
 use Rattle.rules.proofs.Leases.{first-failing, statuses}
@@ -132,9 +133,8 @@ module _ (tables : Tables) (now c : ℕ) (m random reply relay : List ℕ) where
       (chosen-lease (eqb (typeOf m) 2) (eqb (typeOf m) 6) _ _)
 
   plan-lease : Accepted tables sent → typeOf m ≡ 2 → plan tables sent ≡ planLease tables now c lease-decision
-  unfolding plan planMessage
-  plan-lease e t =
-      ⊎-elim (λ r. rw (no-cookie m r) (rw r)) (λ r. rw r) (by-type m (from-peer tables now c m random reply relay (done-passed tables sent e)) .two t)
+  unfolding plan
+  plan-lease e t = lease-plan tables now c m random (from-peer tables now c m random reply relay (done-passed tables sent e)) t
 
   -- byte 1 of the reply, by what was decided
   told-lease : (d : LeaseDecision) → (1 < length (planLease tables now c d .reply))

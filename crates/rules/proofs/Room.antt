@@ -1,6 +1,6 @@
 -- What a call sends fits the buffers that check 5 asks for: each message stands whole in its own. Assumes nothing.
 use Prim.Native.Nat.{ℕ, _≤_, max}
-use mathlib.Core.Path.{_≡_, refl}
+use mathlib.Core.Path.{_≡_}
 use mathlib.Core.Bool.{Bool}
 use mathlib.Core.List.{List}
 use native.Mathlib.Omega.{arith}
@@ -12,7 +12,7 @@ use Rattle.svsc.specs.Messages.{LeaseGranted, cookieBytes, encode, digits}
 use Rattle.rules.specs.Sizes.{leastBuffer}
 use Rattle.rules.specs.Searches.{endRow}
 use Rattle.rules.specs.Tables.{Tables, partnerOf, hasSession, cookieAt, cookieOf}
-use Rattle.rules.specs.Leases.{LeaseDecision, holdsLease, noSpareRow, cookieInUse, noFreeId, renewed, granted, decideLease, rowToExtend}
+use Rattle.rules.specs.Leases.{decideLease, rowToExtend}
 use Rattle.rules.specs.Sessions.{EstablishDecision, refusedWith, establishedWith, decideEstablish}
 use Rattle.rules.specs.Calls.{Call, opening, message, closing, timeOf, connectionOf, replyBuffer, relayBuffer}
 use Rattle.rules.specs.Plans.{Plan, replyOnly, refuseLease, planOpen, planVersionAnswer, planLease, planExtension, planEstablish, planEnd, planData, planClose, plan}
@@ -24,7 +24,7 @@ use Rattle.rules.proofs.Checks.{open-room, close-room, reply-room, rela
 use Rattle.rules.proofs.Answers.{is-done, done-passed}
 use Rattle.rules.proofs.Connections.{keys-most}
 use Rattle.rules.proofs.Decisions.{is-granted}
-use Rattle.rules.proofs.Plans.{Each, kindOf, every-plan, by-test}
+use Rattle.rules.proofs.Plans.{Each, kindOf, every-plan, by-lease, by-test}
 
 -- A reply of at most 64 bytes; to another connection at most 64 or as many as came.
 record Fits (n : ℕ) (x : Plan) : Type 0 where
@@ -55,16 +55,13 @@ module _ (tables : Tables) (now c n : ℕ) where
   granted-fits id until cookie ms short =
       record { reply-fits = simp (length-append, length-bigEndian) (omega arith); relay-fits = omega arith }
 
-  module _ (random cookie : List ℕ) where
-    lease-fits : (d : LeaseDecision) → decideLease cs ls now c random cookie ≡ d → Fits n (planLease tables now c d)
-    unfolding planLease
-    lease-fits holdsLease e = refused-fits
-    lease-fits noSpareRow e = refused-fits
-    lease-fits cookieInUse e = refused-fits
-    lease-fits noFreeId e = refused-fits
-    lease-fits (renewed row) e = granted-fits _ _ _ _ (unfold cookieOf in length-part-most ls (cookieAt row) cookieBytes)
-    lease-fits (granted row id drawn) e =
-        granted-fits _ _ _ _ (rw (is-granted ls now c random cs cookie row id drawn e .cookie-is) (length-part-most random 0 cookieBytes))
+  lease-fits : (random cookie : List ℕ) → Fits n (planLease tables now c (decideLease cs ls now c random cookie))
+  unfolding planLease
+  lease-fits random cookie =
+      by-lease (Fits n) tables now c (decideLease cs ls now c random cookie) refused-fits
+      (λ row e. granted-fits _ _ _ _ (unfold cookieOf in length-part-most ls (cookieAt row) cookieBytes))
+      (λ row id drawn e.
+      granted-fits _ _ _ _ (rw (is-granted ls now c random cs cookie row id drawn e .cookie-is) (length-part-most random 0 cookieBytes)))
 
   extension-fits : (cookie : List ℕ) → Fits n (planExtension tables now c cookie)
   unfolding planExtension encode bigEndian
@@ -92,7 +89,7 @@ module _ (tables : Tables) (now c n : ℕ) where
   each-fits kind = record {
     open-plan = small (lit≤ tt) (lit≤ tt);
     version-answer = λ t. answer-fits;
-    lease = λ random cookie. lease-fits random cookie (decideLease cs ls now c random cookie) refl;
+    lease = lease-fits;
     extension = extension-fits;
     establish-plan = λ id random long o. establish-fits id random (decideEstablish cs ls now c id);
     end-plan = λ h. small (lit≤ tt) (lit≤ tt);

@@ -13,7 +13,7 @@ use Rattle.svsc.specs.Messages.{keyBytes, encode}
 use Rattle.rules.specs.Sizes.{connectionCount, connectionsSize, randomBytes, nobody}
 use Rattle.rules.specs.Searches.{endRow}
 use Rattle.rules.specs.Tables.{Tables, partnerOf, opened, isOpen, inSession, hasSession}
-use Rattle.rules.specs.Leases.{LeaseDecision, holdsLease, noSpareRow, cookieInUse, noFreeId, renewed, granted, decideLease, rowToExtend}
+use Rattle.rules.specs.Leases.{LeaseDecision, decideLease, rowToExtend}
 use Rattle.rules.specs.Sessions.{EstablishDecision, refusedWith, establishedWith, decideEstablish, randomSessionId, callersPeerId, callersKey, holdersPeerId, holdersKey, join, establish, endSession, clear}
 use Rattle.rules.specs.Plans.{Plan, doNothing, planOpen, planVersionAnswer, planLease, planExtension, planEstablish, planEnd, planData, planClose}
 use Rattle.rules.specs.Reading.{connectionRecord}
@@ -22,7 +22,7 @@ use Rattle.rules.specs.Effects.{InSessionBytes, Cleared}
 use Rattle.rules.proofs.Connections.{Paired, in-session, Joined, joined-first, joined-second, all-keys, ThreeKeys, three-keys, peer-same, keys-same, kept-clear, end-clears-second}
 use Rattle.rules.proofs.Changes.{changed-both, changed-join}
 use Rattle.rules.proofs.Decisions.{Holding, is-established}
-use Rattle.rules.proofs.Plans.{Each, by-test}
+use Rattle.rules.proofs.Plans.{Each, by-lease, by-test}
 
 -- ---- a session that begins
 
@@ -126,12 +126,8 @@ module _ (tables : Tables) (now c : ℕ) (size : length (tables .connections) �
 
   lease-relays : (d : LeaseDecision) → Relays (planLease tables now c d)
   unfolding planLease
-  lease-relays holdsLease = silent _ _ _ _
-  lease-relays noSpareRow = silent _ _ _ _
-  lease-relays cookieInUse = silent _ _ _ _
-  lease-relays noFreeId = silent _ _ _ _
-  lease-relays (renewed row) = silent _ _ _ _
-  lease-relays (granted row id cookie) = silent _ _ _ _
+  lease-relays d =
+      by-lease Relays tables now c d (silent _ _ _ _) (λ row e. silent _ _ _ _) (λ row id cookie e. silent _ _ _ _)
 
   extension-relays : (cookie : List ℕ) → Relays (planExtension tables now c cookie)
   unfolding planExtension

@@ -17,7 +17,7 @@ use Rattle.allowance.specs.Meter as meter
 use Rattle.rules.specs.Sizes.{rowsPerPartner, connectionCount, rowCount, connectionBytes, leaseBytes, nobody}
 use Rattle.rules.specs.Searches.{firstRow, endRow}
 use Rattle.rules.specs.Tables.{Tables, partnerOf, connectionAt, peerAt, keysAt, keysBytes, awaiting, opened, peer, hasSession, setState, setPeer, leaseAt, idAt, holderAt, cookieAt, setExpiry, setId, setHolder, freshConnection, fresh}
-use Rattle.rules.specs.Leases.{LeaseDecision, holdsLease, noSpareRow, cookieInUse, noFreeId, renewed, granted, decideLease, leaseEnd, grant, renew, rowToExtend, releaseFrom, release}
+use Rattle.rules.specs.Leases.{decideLease, leaseEnd, grant, renew, rowToExtend, releaseFrom, release}
 use Rattle.rules.specs.Sessions.{EstablishDecision, refusedWith, establishedWith, decideEstablish, clear, await, join, leave, endSession, establish}
 use Rattle.rules.specs.Calls.{Call, timeOf, connectionOf}
 use Rattle.rules.specs.Charges.{received}
@@ -31,7 +31,7 @@ use Rattle.rules.proofs.Rows.{by-holder}
 use Rattle.rules.proofs.Fresh.{zeros, fresh-connection, fresh-row, fresh-sizes}
 use Rattle.rules.proofs.Answers.{refused-leaves-all, is-done, done-passed}
 use Rattle.rules.proofs.Decisions.{is-granted}
-use Rattle.rules.proofs.Plans.{Each, kindOf, every-plan, by-test}
+use Rattle.rules.proofs.Plans.{Each, kindOf, every-plan, by-lease, by-test}
 
 -- a byte that is zero stays so where a store puts zero there, or stores elsewhere
 zero-put : (xs : List ℕ) (at : ℕ) (vs : List ℕ) (i : ℕ) → byteAt xs i ≡ 0 → ((j : ℕ) → at + j ≡ i → byteAt vs j ≡ 0)
@@ -137,24 +137,21 @@ module _ (tables : Tables) (now c : ℕ) (zs : SpareZero tables) where
       → Zero (record { reply = reply; relay = relay; destination = d; disconnect = u; connections = cs; leases = ls })
   stay-zero reply relay d u = record { connections = zs .connections; leases = zs .leases }
 
-  module _ (random cookie : List ℕ) where
-    lease-zero : (d : LeaseDecision) → decideLease cs ls now c random cookie ≡ d → Zero (planLease tables now c d)
-    unfolding planLease
-    lease-zero holdsLease e = stay-zero _ _ _ _
-    lease-zero noSpareRow e = stay-zero _ _ _ _
-    lease-zero cookieInUse e = stay-zero _ _ _ _
-    lease-zero noFreeId e = stay-zero _ _ _ _
-    lease-zero (renewed row) e = record {
-      connections = zs .connections;
-      leases = λ i l u. renew-zero i l u ls row (leaseEnd al now) c (zs .leases i l u);
-    }
-    lease-zero (granted row id drawn) e =
-        let g = is-granted ls now c random cs cookie row id drawn e in
-        record {
-          connections = zs .connections;
-          leases = λ i l u.
-              grant-zero i l u ls row (leaseEnd al now) id drawn c (rw (g .cookie-is) (length-part-most random 0 cookieBytes)) (zs .leases i l u);
-        }
+  lease-zero : (random cookie : List ℕ) → Zero (planLease tables now c (decideLease cs ls now c random cookie))
+  unfolding planLease
+  lease-zero random cookie =
+      by-lease Zero tables now c (decideLease cs ls now c random cookie) (stay-zero _ _ _ _)
+      (λ row e. record {
+        connections = zs .connections;
+        leases = λ i l u. renew-zero i l u ls row (leaseEnd al now) c (zs .leases i l u);
+      })
+      (λ row id drawn e.
+      let g = is-granted ls now c random cs cookie row id drawn e in
+      record {
+        connections = zs .connections;
+        leases = λ i l u.
+            grant-zero i l u ls row (leaseEnd al now) id drawn c (rw (g .cookie-is) (length-part-most random 0 cookieBytes)) (zs .leases i l u);
+      })
 
   extension-zero : (cookie : List ℕ) → Zero (planExtension tables now c cookie)
   unfolding planExtension
@@ -190,7 +187,7 @@ module _ (tables : Tables) (now c : ℕ) (zs : SpareZero tables) where
   each-zero n kind = record {
     open-plan = open-zero;
     version-answer = λ t. answer-zero;
-    lease = λ random cookie. lease-zero random cookie (decideLease cs ls now c random cookie) refl;
+    lease = lease-zero;
     extension = extension-zero;
     establish-plan = λ id random long o. establish-zero id random (decideEstablish cs ls now c id);
     end-plan = λ h. end-plan-zero;

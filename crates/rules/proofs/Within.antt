@@ -11,7 +11,7 @@ use Rattle.svsc.specs.Messages.{cookieBytes}
 use Rattle.rules.specs.Sizes.{rowsPerPartner, connectionBytes, leaseBytes, nobody}
 use Rattle.rules.specs.Searches.{firstRow, endRow}
 use Rattle.rules.specs.Tables.{Tables, partnerOf, ownerOf, opened, peer, hasSession}
-use Rattle.rules.specs.Leases.{LeaseDecision, holdsLease, noSpareRow, cookieInUse, noFreeId, renewed, granted, decideLease, leaseEnd, rowToExtend, release}
+use Rattle.rules.specs.Leases.{decideLease, leaseEnd, rowToExtend, release}
 use Rattle.rules.specs.Sessions.{EstablishDecision, refusedWith, establishedWith, decideEstablish, establish}
 use Rattle.rules.specs.Plans.{Plan, doNothing, planOpen, planVersionAnswer, planLease, planExtension, planEstablish, planEnd, planData, planClose}
 use Rattle.rules.specs.Laws.{WithinPartner}
@@ -19,7 +19,7 @@ use Rattle.rules.proofs.Records.{Kept, kept-same, kept-trans, length-pa
 use Rattle.rules.proofs.Connections.{paired, joined-others, keys-most, kept-clear, kept-state, kept-await, kept-end}
 use Rattle.rules.proofs.Rows.{kept-expiry, kept-grant, kept-renew, kept-release}
 use Rattle.rules.proofs.Decisions.{is-renewed, is-granted, is-extended, is-established}
-use Rattle.rules.proofs.Plans.{Each, by-test}
+use Rattle.rules.proofs.Plans.{Each, by-lease, by-test}
 
 module _ (tables : Tables) (now c : ℕ) where
   open Tables tables using (connections as cs, leases as ls, allowances as al)
@@ -58,21 +58,18 @@ module _ (tables : Tables) (now c : ℕ) where
       (λ h. same-connections _ (kept-state cs c (λ n. n refl) opened))
       (λ h. same-connections _ (kept-clear cs c (λ n. n refl)))
 
-  module _ (random cookie : List ℕ) where
-    lease-within : (d : LeaseDecision) → decideLease cs ls now c random cookie ≡ d → Within (planLease tables now c d)
-    unfolding planLease
-    lease-within holdsLease e = nothing-within
-    lease-within noSpareRow e = nothing-within
-    lease-within cookieInUse e = nothing-within
-    lease-within noFreeId e = nothing-within
-    lease-within (renewed row) e =
-        let g = is-renewed ls now c random cs cookie row e in
-        same-rows _ (kept-renew ls row (leaseEnd al now) c (λ n. n (g .own .owner)))
-    lease-within (granted row id drawn) e =
-        let g = is-granted ls now c random cs cookie row id drawn e in
-        same-rows _
-        (kept-grant ls row (leaseEnd al now) id drawn c (λ n. n (g .own .owner))
-        (rw (g .cookie-is) (length-part-most random 0 cookieBytes)))
+  lease-within : (random cookie : List ℕ) → Within (planLease tables now c (decideLease cs ls now c random cookie))
+  unfolding planLease
+  lease-within random cookie =
+      by-lease Within tables now c (decideLease cs ls now c random cookie) nothing-within
+      (λ row e.
+      let g = is-renewed ls now c random cs cookie row e in
+      same-rows _ (kept-renew ls row (leaseEnd al now) c (λ n. n (g .own .owner))))
+      (λ row id drawn e.
+      let g = is-granted ls now c random cs cookie row id drawn e in
+      same-rows _
+      (kept-grant ls row (leaseEnd al now) id drawn c (λ n. n (g .own .owner))
+      (rw (g .cookie-is) (length-part-most random 0 cookieBytes))))
 
   extension-within : (cookie : List ℕ) → Within (planExtension tables now c cookie)
   unfolding planExtension
@@ -131,7 +128,7 @@ module _ (tables : Tables) (now c : ℕ) where
   each-within n kind = record {
     open-plan = open-within;
     version-answer = λ t. answer-within;
-    lease = λ random cookie. lease-within random cookie (decideLease cs ls now c random cookie) refl;
+    lease = lease-within;
     extension = extension-within;
     establish-plan = λ id random long o. establish-within id random (decideEstablish cs ls now c id) refl;
     end-plan = end-within;

@@ -234,8 +234,7 @@ pub record LeaseRow (ls : List ℕ) (r until id : ℕ) (cookie : List ℕ) (c : 
   pub cookie-is : cookieOf ls r ≡ cookie
   pub holder-is : holder ls r ≡ c
 
--- a new lease: "with those 24 bytes as cookie, this holder, expiry reading + 3,600" (`until`, in
--- the law); bytes 13-15 stay
+-- a new lease: "with those 24 bytes as cookie, this holder, expiry reading + 3,600" (`until`, in the law); bytes 13-15 stay
 pub record LeaseTold (tables : Tables) (call : Call) (row until id : ℕ) (cookie : List ℕ) (c : ℕ) (o : Outcome) (told : List ℕ) : Type 0 where
   pub sent : RepliedOnly call o told
   pub written : LeaseRow (o .tables .leases) row until id cookie c
