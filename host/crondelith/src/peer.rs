@@ -43,9 +43,11 @@ With '--cookie' the receiver keeps its lease's cookie in a file, a line of 48 he
 for its id with it the next time, also after a power cut. Then 'kept' or 'new' follows the id on its
 line. It is 'new' the first time, when there is no such file; and else, if the relay has lost its
 leases, has given the id to another since, or takes the last connection for open, as it can do for
-minutes after a power cut. Those who send have to be told a new id; the file has its cookie by then.
-Who has the cookie can have the id, so the file is for its owner only (mode 0600). It is for one
-receiver at a time, which locks a file of the same name with '.lock' after it.
+minutes after a power cut; or if it is another relay or partner than before. Those who send have to
+be told a new id; the file has its cookie by then, and the old one is in a file of the same name
+with '.old' after it, until the next is replaced. Moved back, it is asked with again.
+Who has the cookie can have the id, so both files are for their owner only (mode 0600). They are for
+one receiver at a time, which locks a file of the same name with '.lock' after it.
 
 The exit status is 0 if the whole file has come, 1 if not, also when interrupted before (Ctrl-C),
 and 2 if the arguments are wrong, FILE is in the way at the start, or the file of '--cookie' holds

@@ -149,6 +149,21 @@ fn a_cookie_that_cannot_be_kept_after_all_leaves_the_old_one_and_no_id_is_printe
     assert_eq!(fs::read_to_string(&cookie).expect("the file"), line(&COOKIE));
 }
 
+/// The new lease is there, and who sends can come.
+#[test]
+fn an_old_cookie_that_cannot_be_kept_is_told_and_the_new_one_is_kept() {
+    let (relay, scene) = (Scripted::new(), Scene::new("cookie_old_not_kept"));
+    fs::write(&scene.cookie, line(&COOKIE)).expect("a file");
+    fs::create_dir(scene.old()).expect("a folder");
+    let mut receiver = relay.receiver(&scene);
+    relay.accept().grant(5, &[1; 24], 1 << 39);
+    assert_eq!(receiver.line(), "5 new");
+    assert_eq!(scene.kept(), line(&[1; 24]));
+    let lines = receiver.await_line("waiting for a sender").expect("a line");
+    assert!(lines.contains("The old cookie is lost, as it can't be kept: '"), "{lines}");
+    assert!(lines.contains("cookie.old': it isn't a plain file\n"), "{lines}");
+}
+
 #[test]
 fn the_mode_is_0600_whatever_the_umask() {
     let scene = Scene::new("cookie_umask");
