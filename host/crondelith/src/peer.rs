@@ -9,8 +9,8 @@ use std::time::Duration;
 use clap::{value_parser, Args, Subcommand};
 use codec::DATA_LIMIT;
 use peer::{
-    confirm, receive_contents, send_contents, Error, Fingerprint, Meter, PartFile, Patience, Peer, Progress,
-    RelayAddress, SourceFile, SystemDisk, MESSAGE_SIZE,
+    confirm, receive_contents, send_contents, CookieFile, Error, Fingerprint, Meter, PartFile, Patience, Peer,
+    Progress, RelayAddress, SourceFile, SystemDisk, MESSAGE_SIZE,
 };
 use server::PARTNERS;
 
@@ -139,9 +139,7 @@ pub fn run(arguments: Arguments) -> Outcome {
 fn receive(file: &Path, options: &Options) -> Outcome {
     let port = options.partner_port()?;
     PartFile::check(file, options.force).map_err(|error| in_the_way(file, error))?;
-    if options.cookie.as_deref().and_then(place).is_some_and(|cookie| place(file) == Some(cookie)) {
-        return Err(Failure::Usage("FILE and the cookie file are the same".into()));
-    }
+    options.cookie.as_deref().map_or(Ok(()), |cookie| check_apart(file, cookie))?;
     let watch = Watch::start("interrupted before the whole file had come")?;
     // The cookie file is this receiver's until it ends.
     let mut id = ReceiverId::new(options.cookie.as_deref())?;
@@ -199,6 +197,18 @@ fn send(id: u32, path: &Path, options: &Options) -> Outcome {
     note("the receiver has confirmed the whole file");
     finish(peer);
     Ok(())
+}
+
+/// The received file mustn't replace the cookie file, nor what that has beside it.
+fn check_apart(file: &Path, cookie: &Path) -> Outcome {
+    let (Some(file), Some(cookie)) = (place(file), place(cookie)) else { return Ok(()) };
+    let why = match file {
+        file if file == cookie => "FILE and the cookie file are the same",
+        file if file == CookieFile::lock_path_of(&cookie) => "FILE has the name of the cookie file's lock",
+        file if file == CookieFile::old_path_of(&cookie) => "FILE has the name under which an old cookie is kept",
+        _ => return Ok(()),
+    };
+    Err(Failure::Usage(why.into()))
 }
 
 /// Where a file is or will be, whichever way it is told. None if there is no such folder.

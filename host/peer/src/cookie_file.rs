@@ -87,7 +87,17 @@ impl CookieFile {
 
     /// Where the cookie is that was replaced last, if any was.
     pub fn old_path(&self) -> PathBuf {
-        beside(&self.path, OLD)
+        Self::old_path_of(&self.path)
+    }
+
+    /// Likewise, of a cookie file at this path, which is no link.
+    pub fn old_path_of(path: &Path) -> PathBuf {
+        beside(path, OLD)
+    }
+
+    /// Where the lock is of a cookie file at this path, which is no link.
+    pub fn lock_path_of(path: &Path) -> PathBuf {
+        beside(path, LOCK)
     }
 
     /// Keeps a cookie, and before that the one that it replaces in the old file: the id of that one may be had again. A backup
@@ -242,7 +252,7 @@ fn beside(path: &Path, suffix: &str) -> PathBuf {
 
 /// The lock is on a file beside it, as the file itself is another whenever it is written.
 fn lock(path: &Path) -> io::Result<File> {
-    let name = beside(path, LOCK);
+    let name = CookieFile::lock_path_of(path);
     let file = lock_file(&name).map_err(|error| about(&format!("'{}'", name.display()), error))?;
     match file.try_lock() {
         Ok(()) => Ok(file),
