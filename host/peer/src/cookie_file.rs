@@ -181,7 +181,10 @@ fn resolve(path: &Path) -> io::Result<PathBuf> {
         }
         other => other?,
     };
-    let path = path.canonicalize()?;
+    let path = path.canonicalize().map_err(|error| match error.kind() {
+        io::ErrorKind::NotFound => about("it is a link that leads nowhere", error),
+        _ => error,
+    })?;
     match path.metadata()?.is_file() {
         true => Ok(path),
         false => Err(no_cookie("it isn't a plain file")),

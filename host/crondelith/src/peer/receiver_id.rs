@@ -82,11 +82,12 @@ impl ReceiverId {
     }
 
     fn refused(&self, error: Error) -> Failure {
-        match (&self.file, error) {
-            (Some(_), error @ Error::LeaseRefused) => {
+        let kept = self.file.as_ref().and_then(CookieFile::cookie);
+        match error {
+            Error::LeaseRefused if kept.is_some() => {
                 Failure::Failed(format!("{error}. The cookie file is as it was, for another try"))
             }
-            (_, error) => failed(error),
+            _ => failed(error),
         }
     }
 }

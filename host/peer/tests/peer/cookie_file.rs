@@ -240,7 +240,8 @@ fn a_link_stays_one() {
     assert!(refused(&target).1.contains("another receiver uses it"));
     drop(file);
     fs::remove_file(&target).expect("removed");
-    assert!(refused(&path).1.contains("No such file"));
+    let (kind, why) = refused(&path);
+    assert!(kind == ErrorKind::NotFound && why.contains("it is a link that leads nowhere"), "{why}");
     assert!(!target.exists(), "a link to nothing is an error");
 }
 

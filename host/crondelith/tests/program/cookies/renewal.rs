@@ -175,7 +175,8 @@ fn a_refused_lease_changes_nothing() {
         let ended = receiver.end();
         assert_eq!((ended.status, &*ended.stdout), (Some(1), ""), "{}", ended.stderr);
         assert!(ended.last_line().contains("granted no id"), "{}", ended.stderr);
-        assert!(ended.last_line().contains("The cookie file is as it was"), "{}", ended.stderr);
+        let told = ended.last_line().contains("The cookie file is as it was");
+        assert_eq!(told, kept.is_some(), "{}", ended.stderr);
         assert_eq!(fs::read_to_string(&scene.cookie).ok(), kept);
     }
 }
