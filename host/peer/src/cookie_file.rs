@@ -100,17 +100,18 @@ impl CookieFile {
         beside(path, LOCK)
     }
 
-    /// Keeps a cookie, and before that the one that it replaces in the old file: the id of that one may be had again. A backup
-    /// that fails doesn't keep the new one from being kept. When this returns, they survive a power cut.
+    /// Keeps a cookie. One that it replaces is kept in the old file before that, as its id may be had again; if that fails, the
+    /// new one is kept all the same. When this returns, both survive a power cut.
     pub fn keep(&mut self, cookie: &Cookie) -> io::Result<Backup> {
-        let backup = match &self.cookie {
-            Some(old) if old != cookie => self.back_up(old).map_or_else(Backup::Failed, |()| Backup::Made),
-            _ => Backup::Unneeded,
-        };
-        if self.cookie.as_ref() != Some(cookie) {
-            write(cookie, &self.path).map_err(|error| named(&self.path, error))?;
-            self.cookie = Some(*cookie);
+        if self.cookie.as_ref() == Some(cookie) {
+            return Ok(Backup::Unneeded);
         }
+        let backup = match &self.cookie {
+            None => Backup::Unneeded,
+            Some(old) => self.back_up(old).map_or_else(Backup::Failed, |()| Backup::Made),
+        };
+        write(cookie, &self.path).map_err(|error| named(&self.path, error))?;
+        self.cookie = Some(*cookie);
         Ok(backup)
     }
 

@@ -75,7 +75,11 @@ impl ReceiverId {
         match (&self.file, backup) {
             (_, Backup::Failed(error)) => note(&format!("{why}. The old cookie is lost, as it can't be kept: {error}")),
             (Some(file), Backup::Made) => {
-                note(&format!("{why}. The old cookie is in '{}'", file.old_path().display()));
+                let old = file.old_path();
+                note(&format!(
+                    "{why}. The old cookie is in '{}'; to ask with it, move it back before the next run",
+                    old.display()
+                ));
             }
             _ => note(why),
         }

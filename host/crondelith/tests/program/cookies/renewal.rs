@@ -117,7 +117,10 @@ fn the_old_cookie_leads_to_the_old_id_again() {
         ["peer", "receive", text(&copy), "--relay", &format!("127.0.0.1:{port}"), "--cookie", text(&scene.cookie)];
     let mut second = Running::start(&mut program(&wrong));
     assert!(second.line().ends_with(" new"));
-    let said = format!("The old cookie is in '{}'", scene.old().canonicalize().expect("a file").display());
+    let said = format!(
+        "The old cookie is in '{}'; to ask with it, move it back",
+        scene.old().canonicalize().expect("a file").display()
+    );
     let lines = second.await_line("tell it to those who send").expect("a line");
     assert!(lines.contains(&said), "{lines}");
     assert_eq!(fs::read_to_string(scene.old()).expect("a file"), cookie);
