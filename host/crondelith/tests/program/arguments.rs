@@ -62,7 +62,7 @@ fn the_version_is_printed() {
 }
 
 /// Arguments, and the reason why they are wrong.
-const WRONG: [(&[&str], &str); 59] = [
+const WRONG: [(&[&str], &str); 57] = [
     (&[], "'crondelith' requires a subcommand"),
     (&["dance"], "'dance' wasn't recognized"),
     (&["help", "dance"], "'dance' wasn't recognized"),
@@ -99,8 +99,6 @@ const WRONG: [(&[&str], &str); 59] = [
     (&["peer", "receive", "file", "--cookie"], "'--cookie <FILE>' requires a value"),
     (&["peer", "receive", "file", "--cookie", "c", "--cookie", "d"], "more than once"),
     (&["peer", "receive", "file", "--cookie", "./file"], "FILE and the cookie file are the same"),
-    (&["peer", "receive", "./z.lock", "--cookie", "z"], "FILE has the name of the cookie file's lock"),
-    (&["peer", "receive", "z.old", "--cookie", "./z"], "FILE has the name under which an old cookie is kept"),
     (&["peer", "receive", "file", "--cookie", "/"], "the cookie file '/': it has to be the name of a file"),
     (&["explain"], "'crondelith explain' requires a subcommand"),
     (&["explain", "state"], "'crondelith explain' requires a subcommand"),

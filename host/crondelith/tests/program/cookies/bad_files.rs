@@ -72,21 +72,25 @@ fn a_link_to_the_place_of_the_received_file_is_an_error() {
     assert_eq!(scene.kept(), line(&COOKIE));
 }
 
-/// Also through a link, and though '--force' lets FILE be replaced.
+/// Nor takes a name that is needed there; also through a link, and though '--force' lets FILE be replaced.
 #[test]
 fn a_received_file_replaces_nothing_beside_the_cookie() {
     let (relay, scene) = (Scripted::new(), Scene::new("cookie_beside"));
     let link = scene.folder.join("link");
     fs::write(&scene.cookie, line(&COOKIE)).expect("a file");
     symlink("cookie", &link).expect("a link");
-    for name in ["cookie.lock", "cookie.old"] {
+    let refused = |beside: &Path, cookie: &Path, reason: &str| {
+        let ended = run(&[&relay.arguments(beside, cookie)[..], &["--force"]].concat());
+        assert_eq!((ended.status, &*ended.stdout), (Some(2), ""), "{}", ended.stderr);
+        assert_eq!(ended.stderr, format!("crondelith: FILE has the name {reason}\n"));
+    };
+    let lock = ("cookie.lock", "of the cookie file's lock");
+    for (name, reason) in [lock, ("cookie.old", "under which an old cookie is kept")] {
         let beside = scene.folder.join(name);
+        refused(&beside, &scene.cookie, reason);
+        assert!(!beside.exists(), "nothing is made");
         fs::write(&beside, line(&[1; 24])).expect("a file");
-        for cookie in [&scene.cookie, &link] {
-            let ended = run(&[&relay.arguments(&beside, cookie)[..], &["--force"]].concat());
-            assert_eq!((ended.status, &*ended.stdout), (Some(2), ""), "{}", ended.stderr);
-            assert!(ended.last_line().starts_with("crondelith: FILE has the name "), "{}", ended.stderr);
-        }
+        refused(&beside, &link, reason);
         assert_eq!(fs::read_to_string(&beside).expect("the file"), line(&[1; 24]));
     }
     assert!(relay.is_alone(), "the relay was asked");
