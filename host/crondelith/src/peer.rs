@@ -9,8 +9,8 @@ use std::time::Duration;
 use clap::{value_parser, Args, Subcommand};
 use codec::DATA_LIMIT;
 use peer::{
-    confirm, receive_contents, send_contents, Error, Fingerprint, Meter, PartFile, Patience, Peer, Progress,
-    RelayAddress, SourceFile, SystemDisk, MESSAGE_SIZE,
+    confirm, receive_contents, send_contents, CookieFile, Error, Fingerprint, Meter, PartFile, Patience, Peer,
+    Progress, RelayAddress, SourceFile, SystemDisk, MESSAGE_SIZE,
 };
 use server::PARTNERS;
 
@@ -43,9 +43,11 @@ With '--cookie' the receiver keeps its lease's cookie in a file, a line of 48 he
 for its id with it the next time, also after a power cut. Then 'kept' or 'new' follows the id on its
 line. It is 'new' the first time, when there is no such file; and else, if the relay has lost its
 leases, has given the id to another since, or takes the last connection for open, as it can do for
-minutes after a power cut. Those who send have to be told a new id; the file has its cookie by then.
-Who has the cookie can have the id, so the file is for its owner only (mode 0600). It is for one
-receiver at a time, which locks a file of the same name with '.lock' after it.
+minutes after a power cut; or if it is another relay or partner than before. Those who send have to
+be told a new id; the file has its cookie by then, and the old one is in a file of the same name
+with '.old' after it, until the next is replaced. Moved back, it is asked with again.
+Who has the cookie can have the id, so both files are for their owner only (mode 0600). They are for
+one receiver at a time, which locks a file of the same name with '.lock' after it.
 
 The exit status is 0 if the whole file has come, 1 if not, also when interrupted before (Ctrl-C),
 and 2 if the arguments are wrong, FILE is in the way at the start, or the file of '--cookie' holds
@@ -137,9 +139,7 @@ pub fn run(arguments: Arguments) -> Outcome {
 fn receive(file: &Path, options: &Options) -> Outcome {
     let port = options.partner_port()?;
     PartFile::check(file, options.force).map_err(|error| in_the_way(file, error))?;
-    if options.cookie.as_deref().and_then(place).is_some_and(|cookie| place(file) == Some(cookie)) {
-        return Err(Failure::Usage("FILE and the cookie file are the same".into()));
-    }
+    options.cookie.as_deref().map_or(Ok(()), |cookie| check_apart(file, cookie))?;
     let watch = Watch::start("interrupted before the whole file had come")?;
     // The cookie file is this receiver's until it ends.
     let mut id = ReceiverId::new(options.cookie.as_deref())?;
@@ -197,6 +197,18 @@ fn send(id: u32, path: &Path, options: &Options) -> Outcome {
     note("the receiver has confirmed the whole file");
     finish(peer);
     Ok(())
+}
+
+/// The received file mustn't replace the cookie file, nor what that has beside it.
+fn check_apart(file: &Path, cookie: &Path) -> Outcome {
+    let (Some(file), Some(cookie)) = (place(file), place(cookie)) else { return Ok(()) };
+    let why = match file {
+        file if file == cookie => "FILE and the cookie file are the same",
+        file if file == CookieFile::lock_path_of(&cookie) => "FILE has the name of the cookie file's lock",
+        file if file == CookieFile::old_path_of(&cookie) => "FILE has the name under which an old cookie is kept",
+        _ => return Ok(()),
+    };
+    Err(Failure::Usage(why.into()))
 }
 
 /// Where a file is or will be, whichever way it is told. None if there is no such folder.

@@ -15,6 +15,9 @@ use crate::{Cookie, Error, Fingerprint, PartFile};
 const DIGITS: usize = 2 * COOKIE_LENGTH;
 /// The bits of a mode that let others than the owner in.
 const OTHERS: u32 = 0o077;
+/// What is added to the file's name for that of its lock, and of the cookie of before.
+const LOCK: &str = ".lock";
+const OLD: &str = ".old";
 
 /// A file of one line, the cookie in hex digits. It is whole at every moment: a new one is written beside it and then
 /// takes its name.
@@ -24,6 +27,17 @@ pub struct CookieFile {
     access: Access,
     /// Held as long as the receiver runs: two with one cookie would overwrite each other's.
     _lock: File,
+}
+
+/// What became of the cookie of before when another is kept.
+#[derive(Debug)]
+pub enum Backup {
+    /// There was none, or it is the same.
+    Unneeded,
+    /// It is in the old file.
+    Made,
+    /// It is lost.
+    Failed(io::Error),
 }
 
 /// Who can read a cookie file.
@@ -71,19 +85,61 @@ impl CookieFile {
         &self.path
     }
 
-    /// Keeps a cookie. When this returns, it survives a power cut.
-    pub fn keep(&mut self, cookie: &Cookie) -> io::Result<()> {
-        if self.cookie.as_ref() != Some(cookie) {
-            self.write(&line(cookie)).map_err(|error| named(&self.path, error))?;
-            self.cookie = Some(*cookie);
-        }
-        Ok(())
+    /// Where the cookie is that was replaced last, if any was.
+    pub fn old_path(&self) -> PathBuf {
+        Self::old_path_of(&self.path)
     }
 
-    fn write(&self, line: &[u8]) -> io::Result<()> {
-        let mut part = part_with(line, &self.path)?;
-        part.keep(&Fingerprint::read(line)?).map(drop).map_err(unwritable)
+    /// Likewise, of a cookie file at this path, which is no link.
+    pub fn old_path_of(path: &Path) -> PathBuf {
+        beside(path, OLD)
     }
+
+    /// Where the lock is of a cookie file at this path, which is no link.
+    pub fn lock_path_of(path: &Path) -> PathBuf {
+        beside(path, LOCK)
+    }
+
+    /// Keeps a cookie. One that it replaces is kept in the old file before that, as its id may be had again; if that fails, the
+    /// new one is kept all the same. When this returns, both survive a power cut.
+    pub fn keep(&mut self, cookie: &Cookie) -> io::Result<Backup> {
+        if self.cookie.as_ref() == Some(cookie) {
+            return Ok(Backup::Unneeded);
+        }
+        let backup = match &self.cookie {
+            None => Backup::Unneeded,
+            Some(old) => self.back_up(old).map_or_else(Backup::Failed, |()| Backup::Made),
+        };
+        write(cookie, &self.path).map_err(|error| named(&self.path, error))?;
+        self.cookie = Some(*cookie);
+        Ok(backup)
+    }
+
+    /// Only an earlier backup is replaced: anything else of that name is another's.
+    fn back_up(&self, old: &Cookie) -> io::Result<()> {
+        let path = self.old_path();
+        let kept = check_backup(&path).and_then(|()| write(old, &path));
+        kept.map_err(|error| about(&format!("'{}'", path.display()), error))
+    }
+}
+
+fn check_backup(path: &Path) -> io::Result<()> {
+    let found = match path.symlink_metadata() {
+        Err(error) if error.kind() == io::ErrorKind::NotFound => return Ok(()),
+        other => other?,
+    };
+    // Before it is opened, as that could follow a link, or wait for a pipe.
+    if !found.is_file() {
+        return Err(no_cookie("it isn't a plain file"));
+    }
+    let bytes = contents(&File::open(path)?)?;
+    parse(&bytes).map(drop).ok_or_else(|| no_cookie("it holds something else than a cookie"))
+}
+
+fn write(cookie: &Cookie, path: &Path) -> io::Result<()> {
+    let line = line(cookie);
+    let mut part = part_with(&line, path)?;
+    part.keep(&Fingerprint::read(&line[..])?).map(drop).map_err(unwritable)
 }
 
 /// Writes as much as a cookie beside the file, and removes it.
@@ -126,7 +182,10 @@ fn resolve(path: &Path) -> io::Result<PathBuf> {
         }
         other => other?,
     };
-    let path = path.canonicalize()?;
+    let path = path.canonicalize().map_err(|error| match error.kind() {
+        io::ErrorKind::NotFound => about("it is a link that leads nowhere", error),
+        _ => error,
+    })?;
     match path.metadata()?.is_file() {
         true => Ok(path),
         false => Err(no_cookie("it isn't a plain file")),
@@ -139,13 +198,18 @@ fn read(path: &Path) -> io::Result<Option<(Cookie, File)>> {
         Err(error) if error.kind() == io::ErrorKind::NotFound => return Ok(None),
         other => other.map_err(|error| about("it can't be read", error))?,
     };
-    let mut bytes = Vec::new();
-    // More than a cookie and the end of its line, so that what is too long shows.
-    (&file).take(DIGITS as u64 + 3).read_to_end(&mut bytes)?;
+    let bytes = contents(&file)?;
     match parse(&bytes) {
         Some(cookie) => Ok(Some((cookie, file))),
         None => Err(no_cookie(not_a_cookie(&bytes))),
     }
+}
+
+/// More than a cookie and the end of its line if there is more, so that what is too long shows.
+fn contents(file: &File) -> io::Result<Vec<u8>> {
+    let mut bytes = Vec::new();
+    file.take(DIGITS as u64 + 3).read_to_end(&mut bytes)?;
+    Ok(bytes)
 }
 
 fn not_a_cookie(bytes: &[u8]) -> String {
@@ -183,11 +247,17 @@ fn tighten(file: &File) -> io::Result<Access> {
     })
 }
 
+/// The file with this added to its name.
+fn beside(path: &Path, suffix: &str) -> PathBuf {
+    let mut name = OsString::from(path);
+    name.push(suffix);
+    name.into()
+}
+
 /// The lock is on a file beside it, as the file itself is another whenever it is written.
 fn lock(path: &Path) -> io::Result<File> {
-    let mut name = OsString::from(path);
-    name.push(".lock");
-    let file = lock_file(Path::new(&name)).map_err(|error| about(&format!("'{}'", name.display()), error))?;
+    let name = CookieFile::lock_path_of(path);
+    let file = lock_file(&name).map_err(|error| about(&format!("'{}'", name.display()), error))?;
     match file.try_lock() {
         Ok(()) => Ok(file),
         Err(fs::TryLockError::WouldBlock) => Err(io::Error::other("another receiver uses it")),

@@ -33,7 +33,7 @@ mod source_file;
 
 pub use address::{AddressError, RelayAddress};
 pub use connection::Closer;
-pub use cookie_file::{Access, CookieFile};
+pub use cookie_file::{Access, Backup, CookieFile};
 pub use disk::{Disk, SystemDisk};
 pub use error::Error;
 pub use fingerprint::{Fingerprint, DIGEST_LENGTH};

@@ -41,11 +41,13 @@ const DETAILS: &str = "\
 It says which check stops the call, or that it would be done; whether a lease would be accepted, or
 which of the four conditions fails first; whether a session would be established, or the status why
 not; what the call costs and what the partner has; and what is left, or how much is missing and
-after how many seconds it can be paid. For instance, a lease request from connection 9, now, and one
-with the cookie in the file of a receiver:
+after how many seconds it can be paid. For instance, a lease request from connection 9, now:
 
   crondelith explain relay.state message --connection 9 --hex 0200 --time $(date +%s)
-  crondelith explain relay.state message --connection 9 --hex 0201$(cat FILE) --time $(date +%s)
+
+A request with a cookie is 24 bytes longer, and costs 24 units more. Which cookie it is changes
+nothing of what is told, so zeros stand for any: 0201 and 48 times 0. A real one is a secret, and
+others can see the words of a command.
 
 The file's clock is the time of the last call that was done, or of the relay's start if none was.
 Later the allowances have refilled, and leases may have ended. What is told is the answer to a call

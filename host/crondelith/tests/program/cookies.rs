@@ -43,6 +43,11 @@ impl Scene {
     fn kept(&self) -> String {
         fs::read_to_string(&self.cookie).expect("a cookie file")
     }
+
+    /// Where the cookie is that was replaced last.
+    fn old(&self) -> PathBuf {
+        self.folder.join("cookie.old")
+    }
 }
 
 fn receiver(relay: &Relay, copy: &Path, cookie: &Path) -> (Running, String, String) {

@@ -1,10 +1,11 @@
 //! The program run as a user runs it.
 
 use std::fs;
-use std::io::{BufRead, BufReader, Read, Write};
+use std::io::{self, BufRead, BufReader, Read, Write};
 use std::net::{TcpListener, TcpStream};
 use std::path::{Path, PathBuf};
 use std::process::{Child, ChildStderr, ChildStdout, Command, Stdio};
+use std::sync::mpsc;
 use std::thread;
 use std::time::{Duration, Instant};
 
@@ -12,6 +13,8 @@ pub const PROGRAM: &str = env!("CARGO_BIN_EXE_crondelith");
 
 /// How long the program may take to end.
 const LIMIT: Duration = Duration::from_secs(10);
+/// How long a line may take to come.
+const LINE_LIMIT: Duration = Duration::from_secs(60);
 /// How long a program is watched that shouldn't end.
 pub const WHILE: Duration = Duration::from_millis(300);
 const POLL: Duration = Duration::from_millis(10);
@@ -87,17 +90,20 @@ impl Running {
 
     /// The next line of stdout.
     pub fn line(&mut self) -> String {
-        let mut line = String::new();
-        self.stdout.as_mut().expect("its stdout").read_line(&mut line).expect("a line");
+        let line = next_line(&mut self.stdout, Instant::now() + LINE_LIMIT, "").expect("a line");
         line.trim().to_owned()
     }
 
     /// Waits for a line of stderr with this text. Gives the lines up to it, or None at the end.
     pub fn await_line(&mut self, text: &str) -> Option<String> {
+        self.await_line_until(Instant::now() + LINE_LIMIT, text)
+    }
+
+    fn await_line_until(&mut self, deadline: Instant, text: &str) -> Option<String> {
         let (mut lines, mut last) = (String::new(), 0);
         while !lines[last..].contains(text) {
             last = lines.len();
-            self.stderr.as_mut().expect("its stderr").read_line(&mut lines).ok().filter(|length| *length > 0)?;
+            lines += &next_line(&mut self.stderr, deadline, &lines).ok().filter(|line| !line.is_empty())?;
         }
         Some(lines)
     }
@@ -123,6 +129,26 @@ impl Drop for Running {
         let _ = self.child.kill();
         let _ = self.child.wait();
     }
+}
+
+/// The next line of a stream, which is empty at its end. A test that waits in vain fails, and tells what came before.
+fn next_line<T: BufRead + Send + 'static>(
+    stream: &mut Option<T>,
+    deadline: Instant,
+    before: &str,
+) -> io::Result<String> {
+    let mut reader = stream.take().expect("a stream of the program");
+    let (sender, receiver) = mpsc::channel();
+    // Only a thread can be left waiting; it ends with the program.
+    thread::spawn(move || {
+        let mut line = String::new();
+        let read = reader.read_line(&mut line).map(|_| line);
+        let _ = sender.send((read, reader));
+    });
+    let received = receiver.recv_timeout(deadline.saturating_duration_since(Instant::now()));
+    let (line, reader) = received.unwrap_or_else(|_| panic!("no further line came in time; before:\n{before}"));
+    *stream = Some(reader);
+    line
 }
 
 fn rest(stream: Option<impl Read>) -> String {
@@ -241,4 +267,12 @@ pub fn full_pipe() -> (Stdio, Running) {
     let mut pipe = reader.child.stdin.take().expect("a pipe");
     pipe.write_all(&[0; PIPE_SIZE]).expect("room for as much as a pipe holds");
     (pipe.into(), reader)
+}
+
+#[test]
+#[should_panic(expected = "no further line came in time; before:\nfirst\nsecond\n")]
+fn a_test_that_waits_for_a_line_in_vain_fails() {
+    let mut shell = Command::new("sh");
+    shell.args(["-c", "echo first >&2; echo second >&2; exec sleep 60"]).stderr(Stdio::piped());
+    Running::start(&mut shell).await_line_until(Instant::now() + Duration::from_secs(2), "third");
 }

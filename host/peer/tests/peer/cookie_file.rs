@@ -5,7 +5,7 @@ use std::io::ErrorKind;
 use std::os::unix::fs::{symlink, MetadataExt, PermissionsExt};
 use std::path::{Path, PathBuf};
 
-use peer::{Access, Cookie, CookieFile};
+use peer::{Access, Backup, Cookie, CookieFile};
 use tempfile::TempDir;
 
 const COOKIE: Cookie = *b"\0\x01\x0f\x10\x7f\x80\xff a cookie's bytes";
@@ -48,7 +48,7 @@ fn a_cookie_is_had_again() {
         assert_eq!(file.cookie(), Some(&cookie));
     }
     drop(file);
-    assert_eq!(names(&folder), ["cookie", "cookie.lock"]);
+    assert_eq!(names(&folder), ["cookie", "cookie.lock", "cookie.old"]);
     assert_eq!(fs::read_to_string(&path).expect("a text"), format!("{DIGITS}\n"));
     assert_eq!((mode(&path), mode(&folder.path().join("cookie.lock"))), (0o600, 0o600));
     let again = CookieFile::open(&path).expect("a cookie file");
@@ -162,7 +162,67 @@ fn a_cookie_is_written_to_a_new_file_and_only_if_it_is_another() {
     file.keep(&OTHER).expect("kept");
     assert_ne!(inode(), first);
     assert_eq!(fs::read_to_string(&old).expect("the old file"), DIGITS, "it was never written to");
-    assert_eq!(names(&folder), ["cookie", "cookie.lock", "old"]);
+    assert_eq!(names(&folder), ["cookie", "cookie.lock", "cookie.old", "old"]);
+}
+
+#[test]
+fn a_cookie_that_is_replaced_is_in_the_old_file() {
+    let (folder, path) = folder();
+    let mut file = CookieFile::open(&path).expect("a free name");
+    for _ in 0..2 {
+        assert!(matches!(file.keep(&COOKIE), Ok(Backup::Unneeded)), "at first, or the same");
+        assert_eq!(names(&folder), ["cookie", "cookie.lock"]);
+    }
+    let old = file.old_path();
+    for (cookie, digits) in [(OTHER, DIGITS), (COOKIE, &"ab".repeat(24))] {
+        assert!(matches!(file.keep(&cookie), Ok(Backup::Made)));
+        assert_eq!((fs::read_to_string(&old).expect("a text"), mode(&old)), (format!("{digits}\n"), 0o600));
+        // The earlier one is replaced, and not written to.
+        fs::set_permissions(&old, Permissions::from_mode(0o444)).expect("a mode");
+    }
+    assert!(matches!(file.keep(&COOKIE), Ok(Backup::Unneeded)));
+    assert_eq!(names(&folder), ["cookie", "cookie.lock", "cookie.old"]);
+    drop(file);
+    assert_eq!(CookieFile::open(&old).expect("a cookie file").cookie(), Some(&OTHER), "it can be asked with");
+}
+
+#[test]
+fn the_old_file_is_there_before_the_cookie_is_replaced() {
+    let (_folder, path) = folder();
+    fs::write(&path, DIGITS).expect("a file");
+    let mut file = CookieFile::open(&path).expect("a cookie file");
+    // A folder can't be replaced by a file.
+    fs::remove_file(&path).expect("removed");
+    fs::create_dir(&path).expect("a folder");
+    file.keep(&OTHER).expect_err("a folder is in the way");
+    assert_eq!(file.cookie(), Some(&COOKIE));
+    assert_eq!(fs::read_to_string(file.old_path()).expect("a text"), format!("{DIGITS}\n"));
+}
+
+/// The new cookie is kept all the same.
+#[test]
+fn an_old_file_that_is_no_cookie_is_left_alone() {
+    let (folder, path) = folder();
+    let [old, target] = ["cookie.old", "target"].map(|name| folder.path().join(name));
+    fs::write(&target, DIGITS).expect("a file");
+    let mut file = CookieFile::open(&path).expect("a free name");
+    file.keep(&COOKIE).expect("kept");
+    let mut failed = |cookie: &Cookie, reason: &str| {
+        let Ok(Backup::Failed(error)) = file.keep(cookie) else { panic!("a backup: {reason}") };
+        assert_eq!(error.to_string(), format!("'{}': {reason}", old.display()));
+        assert_eq!(fs::read_to_string(&path).expect("a text")[..2], format!("{:02x}", cookie[0]));
+    };
+    fs::write(&old, "a letter to mother").expect("a file");
+    failed(&OTHER, "it holds something else than a cookie");
+    assert_eq!(fs::read_to_string(&old).expect("the file"), "a letter to mother");
+    fs::remove_file(&old).expect("removed");
+    symlink("target", &old).expect("a link");
+    failed(&COOKIE, "it isn't a plain file");
+    assert_eq!(fs::read_to_string(&target).expect("the file"), DIGITS);
+    fs::remove_file(&old).expect("removed");
+    fs::create_dir(&old).expect("a folder");
+    failed(&OTHER, "it isn't a plain file");
+    assert_eq!(names(&folder), ["cookie", "cookie.lock", "cookie.old", "target"]);
 }
 
 #[test]
@@ -175,11 +235,13 @@ fn a_link_stays_one() {
     file.keep(&OTHER).expect("kept");
     assert_eq!(fs::read_link(&path).expect("a link"), Path::new("target"));
     assert_eq!(fs::read_to_string(&target).expect("the file"), "ab".repeat(24) + "\n");
+    assert_eq!(names(&folder), ["cookie", "target", "target.lock", "target.old"]);
     // Whichever name it has.
     assert!(refused(&target).1.contains("another receiver uses it"));
     drop(file);
     fs::remove_file(&target).expect("removed");
-    assert!(refused(&path).1.contains("No such file"));
+    let (kind, why) = refused(&path);
+    assert!(kind == ErrorKind::NotFound && why.contains("it is a link that leads nowhere"), "{why}");
     assert!(!target.exists(), "a link to nothing is an error");
 }
 

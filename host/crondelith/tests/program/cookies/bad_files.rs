@@ -72,6 +72,30 @@ fn a_link_to_the_place_of_the_received_file_is_an_error() {
     assert_eq!(scene.kept(), line(&COOKIE));
 }
 
+/// Nor takes a name that is needed there; also through a link, and though '--force' lets FILE be replaced.
+#[test]
+fn a_received_file_replaces_nothing_beside_the_cookie() {
+    let (relay, scene) = (Scripted::new(), Scene::new("cookie_beside"));
+    let link = scene.folder.join("link");
+    fs::write(&scene.cookie, line(&COOKIE)).expect("a file");
+    symlink("cookie", &link).expect("a link");
+    let refused = |beside: &Path, cookie: &Path, reason: &str| {
+        let ended = run(&[&relay.arguments(beside, cookie)[..], &["--force"]].concat());
+        assert_eq!((ended.status, &*ended.stdout), (Some(2), ""), "{}", ended.stderr);
+        assert_eq!(ended.stderr, format!("crondelith: FILE has the name {reason}\n"));
+    };
+    let lock = ("cookie.lock", "of the cookie file's lock");
+    for (name, reason) in [lock, ("cookie.old", "under which an old cookie is kept")] {
+        let beside = scene.folder.join(name);
+        refused(&beside, &scene.cookie, reason);
+        assert!(!beside.exists(), "nothing is made");
+        fs::write(&beside, line(&[1; 24])).expect("a file");
+        refused(&beside, &link, reason);
+        assert_eq!(fs::read_to_string(&beside).expect("the file"), line(&[1; 24]));
+    }
+    assert!(relay.is_alone(), "the relay was asked");
+}
+
 #[test]
 fn a_file_that_cannot_be_read_is_left_alone() {
     let (relay, scene) = (Scripted::new(), Scene::new("cookie_unreadable"));
@@ -147,6 +171,21 @@ fn a_cookie_that_cannot_be_kept_after_all_leaves_the_old_one_and_no_id_is_printe
     assert!(ended.last_line().contains("the cookie of the id 5 can't be kept: "), "{}", ended.stderr);
     assert!(ended.last_line().ends_with("Permission denied (os error 13)"), "{}", ended.stderr);
     assert_eq!(fs::read_to_string(&cookie).expect("the file"), line(&COOKIE));
+}
+
+/// The new lease is there, and who sends can come.
+#[test]
+fn an_old_cookie_that_cannot_be_kept_is_told_and_the_new_one_is_kept() {
+    let (relay, scene) = (Scripted::new(), Scene::new("cookie_old_not_kept"));
+    fs::write(&scene.cookie, line(&COOKIE)).expect("a file");
+    fs::create_dir(scene.old()).expect("a folder");
+    let mut receiver = relay.receiver(&scene);
+    relay.accept().grant(5, &[1; 24], 1 << 39);
+    assert_eq!(receiver.line(), "5 new");
+    assert_eq!(scene.kept(), line(&[1; 24]));
+    let lines = receiver.await_line("waiting for a sender").expect("a line");
+    assert!(lines.contains("The old cookie is lost, as it can't be kept: '"), "{lines}");
+    assert!(lines.contains("cookie.old': it isn't a plain file\n"), "{lines}");
 }
 
 #[test]

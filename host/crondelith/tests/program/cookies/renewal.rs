@@ -27,6 +27,7 @@ fn a_killed_receiver_has_its_id_again() {
     assert_eq!((&again, &*word), (&id, "kept"));
     assert!(second.await_line("the id is the one of before").is_some());
     assert_eq!(scene.kept(), cookie);
+    assert!(!scene.old().exists(), "no cookie was replaced");
     scene.transfer(&relay, &id, second);
 }
 
@@ -102,6 +103,35 @@ fn an_id_whose_connection_is_open_stays_with_it() {
     }
 }
 
+/// Asked at another partner by mistake, or too soon after a power cut.
+#[test]
+fn the_old_cookie_leads_to_the_old_id_again() {
+    let relay = Relay::start(&[]);
+    let scene = Scene::new("cookie_old");
+    let (first, id, _) = scene.receiver(&relay);
+    let cookie = scene.kept();
+    kill(first);
+    let port = (relay.base_port + 5).to_string();
+    let copy = scene.folder.join("copy");
+    let wrong =
+        ["peer", "receive", text(&copy), "--relay", &format!("127.0.0.1:{port}"), "--cookie", text(&scene.cookie)];
+    let mut second = Running::start(&mut program(&wrong));
+    assert!(second.line().ends_with(" new"));
+    let said = format!(
+        "The old cookie is in '{}'; to ask with it, move it back",
+        scene.old().canonicalize().expect("a file").display()
+    );
+    let lines = second.await_line("tell it to those who send").expect("a line");
+    assert!(lines.contains(&said), "{lines}");
+    assert_eq!(fs::read_to_string(scene.old()).expect("a file"), cookie);
+    kill(second);
+    fs::rename(scene.old(), &scene.cookie).expect("the old cookie in place");
+    let (third, again, word) = scene.receiver(&relay);
+    assert_eq!((&again, &*word), (&id, "kept"));
+    assert!(!scene.old().exists(), "no cookie was replaced");
+    scene.transfer(&relay, &id, third);
+}
+
 #[test]
 fn it_is_asked_with_the_cookie_of_the_file_and_at_first_without() {
     let (relay, scene) = (Scripted::new(), Scene::new("cookie_asked"));
@@ -111,6 +141,7 @@ fn it_is_asked_with_the_cookie_of_the_file_and_at_first_without() {
     connection.grant(5, &FIRST, LATER);
     assert_eq!(receiver.line(), "5 new");
     assert_eq!(scene.kept(), line(&FIRST));
+    assert!(!scene.old().exists(), "there was no cookie before");
     drop(receiver);
     for (id, granted, said) in [(5, FIRST, "5 kept"), (6, SECOND, "6 new"), (6, SECOND, "6 kept")] {
         let kept = scene.kept();
@@ -147,7 +178,8 @@ fn a_refused_lease_changes_nothing() {
         let ended = receiver.end();
         assert_eq!((ended.status, &*ended.stdout), (Some(1), ""), "{}", ended.stderr);
         assert!(ended.last_line().contains("granted no id"), "{}", ended.stderr);
-        assert!(ended.last_line().contains("The cookie file is as it was"), "{}", ended.stderr);
+        let told = ended.last_line().contains("The cookie file is as it was");
+        assert_eq!(told, kept.is_some(), "{}", ended.stderr);
         assert_eq!(fs::read_to_string(&scene.cookie).ok(), kept);
     }
 }
@@ -169,4 +201,7 @@ fn an_id_that_replaces_one_while_waiting_is_kept_too() {
     }
     assert_eq!(receiver.line(), "6 new");
     assert_eq!(scene.kept(), line(&SECOND));
+    assert_eq!(fs::read_to_string(scene.old()).expect("a file"), line(&FIRST));
+    let lines = receiver.await_line("the relay hasn't extended the lease").expect("a line");
+    assert!(lines.contains("The old cookie is in '"), "{lines}");
 }

@@ -1,7 +1,6 @@
 //! What decides a lease and a session.
 
 use std::fs;
-use std::process::Command;
 
 use codec::Message;
 use serde_json::json;
@@ -10,7 +9,6 @@ use super::{
     assert_has, assert_lacks, await_saved, establish, explain_message, hex, lease, peer, relay, Session, FIRST,
     KEEPALIVE, SECOND, THIRD,
 };
-use crate::support::PROGRAM;
 
 /// The random bytes that have this cookie, and this number for every id.
 fn random(cookie: &[u8], id: u32) -> String {
@@ -43,20 +41,25 @@ fn the_random_bytes_of_a_lease_decide_as_the_relay_would() {
     }
 }
 
-/// As the file of a receiver has the cookie.
+/// Though the relay would renew the lease of the one, and not of the other.
 #[test]
-fn a_lease_with_the_cookie_of_a_file() {
+fn a_cookie_of_zeros_is_explained_as_that_of_a_lease() {
     let (relay, state) = relay("explain_cookie");
-    let _first = peer(&relay);
-    let file = state.with_extension("cookie");
-    fs::write(&file, "0123456789abcdef".repeat(3) + "\n").expect("a file");
-    await_saved(|| explain_message(&state, FIRST, KEEPALIVE, &[])["check"] == 0);
-    let words = format!("'{PROGRAM}' explain '{}' message --connection {FIRST}", state.display());
-    let shell = format!("{words} --hex 0201$(cat '{}')", file.display());
-    let told = Command::new("sh").args(["-c", &shell]).output().expect("a shell");
-    let told = String::from_utf8(told.stdout).expect("text");
-    assert!(told.contains("26 bytes, type 2 (lease request)"), "{told}");
-    assert!(told.contains("accepted, all four conditions hold"), "{told}");
+    let mut holder = peer(&relay);
+    let (id, own) = lease(&mut holder);
+    let _second = peer(&relay);
+    drop(holder);
+    let check = |connection| explain_message(&state, connection, KEEPALIVE, &[])["check"].clone();
+    await_saved(|| check(FIRST) == 4 && check(SECOND) == 0);
+    for (cookie, candidate, condition) in [(&own[..], id, 3), (&[0xab; 24], id, 4), (&[0xab; 24], id ^ 1, 0)] {
+        let explain = |asked: &[u8]| {
+            let request = "0201".to_owned() + &hex(asked);
+            let options = ["--random", &random(cookie, candidate)];
+            explain_message(&state, SECOND, &request, &options)
+        };
+        assert_has(&explain(&own), json!({ "request": "lease", "condition": condition, "cost": 58 }));
+        assert_eq!(explain(&[0; 24]), explain(&own));
+    }
 }
 
 #[test]
