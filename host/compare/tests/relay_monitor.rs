@@ -8,7 +8,7 @@ use compare::{amount, forms};
 use engine::relay::Answer;
 use model::{partner_of, Relay, LEVEL_LIMIT};
 
-const RUNS: u64 = 40;
+const RUNS: u64 = 160;
 const CALLS_OF_EACH: usize = 400;
 
 /// Follows runs of the relay until the monitor finds a fault.
