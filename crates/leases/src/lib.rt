@@ -2,10 +2,9 @@
 // Tables and random bytes of the right size, and numbers in range, are required: the relay's checks 1, 2, 3 and 5 come before anything here
 // is called, and no answer would serve where they fail.
 ghost use mathlib.Core.Path.{_≡_};
-ghost use Prim.Native.Nat.{_<_};
-ghost use lib.ListN.{length};
 ghost use mathlib.Core.List.{List};
-ghost use Prim.Native.Nat.{ℕ};
+ghost use Prim.Native.Nat.{ℕ, _<_};
+ghost use lib.ListN.{length};
 ghost use Rattle.rules.specs.Sizes.{partners, connectionCount, leasesSize, timeLimit, candidateCount, randomBytes};
 ghost use Rattle.rules.specs.Leases.{leaseEnd, candidate, randomCookie, renewOrGrant, decideLease};
 ghost use Rattle.leases.specs.Leases.{freeId, foundId, meaning};
