@@ -1,4 +1,4 @@
-/* The relay's engine: making a fresh relay, opening a connection, a message from one, closing one.
+/* The relay's engine: making a fresh relay, opening a connection, a message from one, closing one, and finding out whether one is dead.
  *
  * Link libcrondelith.a, which host/build-archives builds. Each function is total: any bytes, any numbers and any lengths get an answer.
  * The three tables are 4,096, 5,120 and 144 bytes; who calls keeps them between calls and writes nothing to them. Buffers must not
@@ -28,7 +28,7 @@ extern "C" {
  *   3 connection 64 or more                9 costs more than the partner has left
  *   4 open: not closed; else: closed
  *   5 a buffer too short, or not 80 random bytes
- * Making a fresh relay has 1 and the first half of 2 alone. Times are whole seconds.
+ * A keepalive has checks 1 to 5, as a close has, but with both buffers at least CRONDELITH_BUFFER long. Making a fresh relay has 1 and the first half of 2 alone. Times are whole seconds.
  * A refused call changes no byte and answers 0, 0, CRONDELITH_NOBODY, 0.
  */
 typedef struct {
@@ -54,6 +54,16 @@ crondelith_answer crondelith_message(uint8_t *connections, size_t connections_le
 crondelith_answer crondelith_close(uint8_t *connections, size_t connections_length, uint8_t *leases, size_t leases_length,
                                    uint8_t *allowances, size_t allowances_length, uint64_t now, uint64_t connection, uint8_t *relay,
                                    size_t relay_length);
+
+/* To be called for each connection, once a second or so: finds out whether its peer still answers. Costs nothing.
+ * Connected peers are asked by a Keepalive (type 13) 30 seconds after the last message that they were sent, and any message from them that
+ * is accepted answers it. Where one has not been answered for 60 seconds, the connection is closed as by crondelith_close: `relay` bytes may
+ * be for `destination`, and disconnect is 1. Else, where none is unanswered and 30 seconds have passed, `reply` is the Keepalive to send.
+ * Else nothing is sent, and of the tables only the clock changes.
+ */
+crondelith_answer crondelith_keepalive(uint8_t *connections, size_t connections_length, uint8_t *leases, size_t leases_length,
+                                       uint8_t *allowances, size_t allowances_length, uint64_t now, uint64_t connection,
+                                       uint8_t *reply, size_t reply_length, uint8_t *relay, size_t relay_length);
 
 /* Why is a call turned away, or what decides it? These answer for the call that the function without 'explain_' in its name would be
  * asked for, from the same tables and with buffers of such lengths; they only read. Link libcrondelith_reasons.a.
@@ -88,6 +98,10 @@ crondelith_reason crondelith_explain_message(const uint8_t *connections, size_t 
 crondelith_reason crondelith_explain_close(const uint8_t *connections, size_t connections_length, const uint8_t *leases,
                                            size_t leases_length, const uint8_t *allowances, size_t allowances_length, uint64_t now,
                                            uint64_t connection, uint64_t relay_length);
+
+crondelith_reason crondelith_explain_keepalive(const uint8_t *connections, size_t connections_length, const uint8_t *leases,
+                                               size_t leases_length, const uint8_t *allowances, size_t allowances_length, uint64_t now,
+                                               uint64_t connection, uint64_t reply_length, uint64_t relay_length);
 
 #ifdef __cplusplus
 }

@@ -57,6 +57,7 @@ declare_on_tables! {
         relay_length: u64
     );
     crondelith_explain_close(now: u64, connection: u64, relay_length: u64);
+    crondelith_explain_keepalive(now: u64, connection: u64, reply_length: u64, relay_length: u64);
 }
 
 /// Opening a connection, with a reply buffer of such a length.
@@ -91,4 +92,9 @@ pub fn message(
 /// Closing a connection, with a relay buffer of such a length.
 pub fn close(tables: Tables, now: u64, connection: u64, relay_length: u64) -> Reason {
     call_on_tables!(crondelith_explain_close, tables.as_ptr, now, connection, relay_length)
+}
+
+/// Finding out whether a connection is dead, with buffers of such lengths.
+pub fn keepalive(tables: Tables, now: u64, connection: u64, reply_length: u64, relay_length: u64) -> Reason {
+    call_on_tables!(crondelith_explain_keepalive, tables.as_ptr, now, connection, reply_length, relay_length)
 }

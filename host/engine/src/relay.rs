@@ -65,6 +65,14 @@ declare_on_tables! {
         relay_length: usize
     );
     crondelith_close(now: u64, connection: u64, relay: *mut u8, relay_length: usize);
+    crondelith_keepalive(
+        now: u64,
+        connection: u64,
+        reply: *mut u8,
+        reply_length: usize,
+        relay: *mut u8,
+        relay_length: usize
+    );
 }
 
 /// Makes a fresh relay of the tables.
@@ -107,4 +115,18 @@ pub fn message(
 /// Closes a connection.
 pub fn close(tables: Tables, now: u64, connection: u64, relay: &mut [u8]) -> Answer {
     call_on_tables!(crondelith_close, tables.as_mut_ptr, now, connection, relay.as_mut_ptr(), relay.len())
+}
+
+/// Finds out whether a connection is dead: it is closed, or asked, or nothing is due.
+pub fn keepalive(tables: Tables, now: u64, connection: u64, reply: &mut [u8], relay: &mut [u8]) -> Answer {
+    call_on_tables!(
+        crondelith_keepalive,
+        tables.as_mut_ptr,
+        now,
+        connection,
+        reply.as_mut_ptr(),
+        reply.len(),
+        relay.as_mut_ptr(),
+        relay.len()
+    )
 }
