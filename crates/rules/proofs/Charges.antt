@@ -7,7 +7,7 @@ use mathlib.Core.List.{List}
 use lib.ListN.{length}
 use borrow.Author.Tests.{eq-eqb, ne-eqb}
 use Rattle.svsc.specs.Messages.{typeOf}
-use Rattle.rules.specs.Calls.{opening, message, closing}
+use Rattle.rules.specs.Calls.{opening, message, closing, keepalive}
 use Rattle.rules.specs.Charges.{charged, cost}
 use Rattle.rules.proofs.Exactly.{eq-exactly, not-exactly}
 
@@ -20,6 +20,10 @@ message-charged now c m random reply relay = not-exactly _ (eq-exactly (typeOf m
 
 pub close-free : (now c : ℕ) (relay : List ℕ) → charged (closing now c relay) ≡ false
 close-free now c relay = refl
+
+-- 02, Item 3: "free of charge"
+pub keepalive-free : (now c : ℕ) (reply relay : List ℕ) → charged (keepalive now c reply relay) ≡ false
+keepalive-free now c reply relay = refl
 
 -- "A message costs 32 plus its length; an open costs 32; SessionEnd, close .. cost nothing."
 pub open-cost : (now c : ℕ) (reply : List ℕ) → cost (opening now c reply) ≡ 32
@@ -37,3 +41,7 @@ session-end-cost now c m random reply relay e = rw (eq-eqb (typeOf m) 9 e)
 pub close-cost : (now c : ℕ) (relay : List ℕ) → cost (closing now c relay) ≡ 0
 unfolding cost
 close-cost now c relay = refl
+
+pub keepalive-cost : (now c : ℕ) (reply relay : List ℕ) → cost (keepalive now c reply relay) ≡ 0
+unfolding cost
+keepalive-cost now c reply relay = refl

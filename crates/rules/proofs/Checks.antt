@@ -13,7 +13,7 @@ use Rattle.svsc.specs.Messages.{typeOf, fromPeer}
 use Rattle.allowance.specs.Meter.{verdict}
 use Rattle.rules.specs.Sizes.{partners, connectionCount, connectionsSize, leasesSize, allowancesSize, timeLimit, randomBytes, leastBuffer}
 use Rattle.rules.specs.Tables.{Tables, opened, state, hasSession, clock, sized}
-use Rattle.rules.specs.Calls.{Call, opening, message, closing, timeOf, connectionOf, callerOf}
+use Rattle.rules.specs.Calls.{Call, opening, message, closing, keepalive, timeOf, connectionOf, callerOf}
 use Rattle.rules.specs.Charges.{charged, cost, price, callerLevel}
 use Rattle.rules.specs.Checks.{wrongTime, wrongLengths, notFromPeer, permits, notPermitted, noSession, aboveLevel, firstEight, checks, firstApplying, precheck, check}
 
@@ -161,6 +161,13 @@ open-room tables now c reply h = ltb-false (length reply) leastBuffer (no-check-
 pub close-room : (tables : Tables) (now c : ℕ) (relay : List ℕ) → precheck tables (closing now c relay) ≡ 0 → leastBuffer ≤ length relay
 unfolding firstEight wrongLengths
 close-room tables now c relay h = ltb-false (length relay) leastBuffer (no-check-of tables (closing now c relay) h 4)
+
+pub keepalive-room : (tables : Tables) (now c : ℕ) (reply relay : List ℕ) → precheck tables (keepalive now c reply relay) ≡ 0
+    → (leastBuffer ≤ length reply) × (leastBuffer ≤ length relay)
+unfolding firstEight wrongLengths
+keepalive-room tables now c reply relay h =
+    let two = neither (ltb (length reply) leastBuffer) _ (no-check-of tables (keepalive now c reply relay) h 4) in
+    (ltb-false (length reply) leastBuffer (two .0), ltb-false (length relay) leastBuffer (two .1))
 
 module _ (tables : Tables) (now c : ℕ) (m random reply relay : List ℕ) (h : precheck tables (message now c m random reply relay) ≡ 0) where
   no-check : (i : ℕ) → getD (firstEight tables (message now c m random reply relay)) i false ≡ false

@@ -77,6 +77,8 @@ module _
       data-plan = λ h bytes l. d;
       no-plan = d;
       close-plan = distinct-release ls now c d;
+      dead-plan = λ t. distinct-release ls now c d;
+      ask-plan = d;
     }
 
 -- at the clock of the tables
@@ -95,7 +97,7 @@ step-distinct tables call d = go (ℕ-discrete (step tables call .answer .number
         let ok = passed tables call h in
         let later = distinct-later (tables .leases) (clock (tables .allowances)) (timeOf call) (ok .in-order) d in
         let each = each-distinct tables (timeOf call) (connectionOf call) (ok .leases) (ok .known) later (received call) (kindOf call) in
-        rw (clock-takes-time tables call e, leases-done e) (every-plan _ tables call h each)
+        rw (clock-takes-time tables call e, leases-done e) (unfold plan in every-plan _ tables call h each)
     go (no n) = rw (refused-leaves-all tables call n) d
 
 pub run-distinct : (calls : List Call) (tables : Tables) → AtClock tables → AtClock (after tables calls)

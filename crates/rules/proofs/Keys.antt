@@ -14,7 +14,7 @@ use Rattle.allowance.specs.Meter as meter
 use Rattle.rules.specs.Tables.{Tables}
 use Rattle.rules.specs.Calls.{Call, message, Outcome}
 use Rattle.rules.specs.Sessions.{EstablishDecision, refusedWith, establishedWith, decideEstablish}
-use Rattle.rules.specs.Plans.{Plan, doNothing, planEstablish, planMessage, plan}
+use Rattle.rules.specs.Plans.{Plan, doNothing, planEstablish, planMessage, planCall, plan}
 use Rattle.rules.specs.Charges.{cost, price, callerLevel, charge}
 use Rattle.rules.specs.Checks.{wrongTime, wrongState, wrongLengths, notFromPeer, notPermitted, noSession, aboveLevel, firstEight, checks, check}
 use Rattle.rules.specs.Step.{outcome, done, step}
@@ -85,8 +85,8 @@ module _ (tables : Tables) (now c : ℕ) (m r s reply relay : List ℕ) (long : 
 
   -- Only a lease and an establish depend on the random bytes.
   pub random-unused : typeOf m ≢ 2 → typeOf m ≢ 6 → step tables first ≡ step tables second
-  unfolding done price cost charge plan planMessage encode
-  random-unused two six = by-plans (λ o. o) (rw (go (decode m) (decode-type m)))
+  unfolding done price cost charge planMessage encode
+  random-unused two six = by-plans (λ o. o) (unfold plan planCall in rw (go (decode m) (decode-type m)))
     where
       go : (o : Option Message) → ((x : Message) → o ≡ some x → typeOf m ≡ typeOf (encode x))
           → planMessage tables now c r o ≡ planMessage tables now c s o
@@ -123,8 +123,8 @@ module _ (tables : Tables) (now c : ℕ) (m r s reply relay : List ℕ) (long : 
   decided = decideEstablish (tables .connections) (tables .leases) now c id
 
   is-plan : typeOf m ≡ 6 → (random : List ℕ)
-      → plan tables (message now c m random reply relay) ≡ plan-of (lengthIs m 5) decided random
-  unfolding plan planMessage decode readings plan-of decided id
+      → planCall tables (message now c m random reply relay) ≡ plan-of (lengthIs m 5) decided random
+  unfolding planCall planMessage decode readings plan-of decided id
   is-plan t random = rw t (go (lengthIs m 5))
     where
       go : (fits : Bool) → planMessage tables now c random (when fits (EstablishRequest (numberAt m 1 4))) ≡ plan-of fits decided random
@@ -134,7 +134,7 @@ module _ (tables : Tables) (now c : ℕ) (m r s reply relay : List ℕ) (long : 
   module _ (t : typeOf m ≡ 6) where
     -- What the caller is told depends on bytes 0-47 alone, what the holder is told on 0-15 and 48-79 alone, and the answer on none.
     pub told-caller : SameAt (λ i. i < 48) r s → step tables first .reply ≡ step tables second .reply
-    unfolding done plan-of planEstablish encode
+    unfolding done plan plan-of planEstablish encode
     told-caller e = by-plans (λ o. o .reply) (rw (is-plan t r, is-plan t s, go (lengthIs m 5) decided))
       where
         go : (fits : Bool) (d : EstablishDecision) → plan-of fits d r .reply ≡ plan-of fits d s .reply
@@ -148,7 +148,7 @@ module _ (tables : Tables) (now c : ℕ) (m r s reply relay : List ℕ) (long : 
             )
 
     pub told-holder : SameAt (λ i. (i < 16) ⊎ (48 ≤ i)) r s → step tables first .relay ≡ step tables second .relay
-    unfolding done plan-of planEstablish encode
+    unfolding done plan plan-of planEstablish encode
     told-holder e = by-plans (λ o. o .relay) (rw (is-plan t r, is-plan t s, go (lengthIs m 5) decided))
       where
         go : (fits : Bool) (d : EstablishDecision) → plan-of fits d r .relay ≡ plan-of fits d s .relay
@@ -162,7 +162,7 @@ module _ (tables : Tables) (now c : ℕ) (m r s reply relay : List ℕ) (long : 
             )
 
     pub answered-alike : step tables first .answer ≡ step tables second .answer
-    unfolding done plan-of planEstablish encode
+    unfolding done plan plan-of planEstablish encode
     answered-alike = by-plans (λ o. o .answer) (rw (is-plan t r, is-plan t s) (go (lengthIs m 5) decided))
       where
         part-long : (at : ℕ) → length (part r at 16) ≡ length (part s at 16)

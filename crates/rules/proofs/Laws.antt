@@ -1,7 +1,7 @@
 -- The laws that a reader wants of every call and every run; those of single effects are in CallLaws and MessageLaws. Assumes nothing.
 use Prim.Native.Nat.{ℕ, zero, suc, _+_, _-_, _≤_, _<_}
 use mathlib.Core.Path.{_≡_, refl, sym, _∙_}
-use mathlib.Core.Logic.{_≢_, _⊎_, ⊎-elim, _↔_}
+use mathlib.Core.Logic.{_≢_, _⊎_, inl, inr, ⊎-elim, _↔_}
 use mathlib.Core.Bool.{Bool, true, false}
 use mathlib.Core.List.{List, [], _∷_, _++_}
 use native.Mathlib.Omega.{arith}
@@ -13,12 +13,13 @@ use Rattle.allowance.specs.History.{levelFromHistory, latest, NonePaid}
 use Rattle.rules.specs.Sizes.{partners, nobody}
 use Rattle.rules.specs.Tables.{Tables, allowanceAt, updatedAt, bucketBytes, setBucket, setClock, inSession, bucketOf, clock, fresh}
 use Rattle.rules.specs.Calls.{Call, timeOf, connectionOf, callerOf, Outcome}
-use Rattle.rules.specs.Plans.{plan}
+use Rattle.rules.specs.Plans.{planCall, plan}
 use Rattle.rules.specs.Charges.{charged, received, cost, price, charge}
 use Rattle.rules.specs.Checks.{precheck, checkStart}
 use Rattle.rules.specs.Step.{step, done, start, started}
 use Rattle.rules.specs.Runs.{after, history}
 use Rattle.rules.specs.Bytes.{ChangedOnly}
+use Rattle.rules.specs.Effects.{Marked}
 use Rattle.rules.specs.Laws.{Accepted, Unchanged, WithinPartner, InAllowance, InClock, DistinctIds, SpareZero}
 use Rattle.rules.proofs.Checks.{Passed, passed}
 use Rattle.rules.proofs.Answers.{refused-leaves-all, is-done, done-passed}
@@ -28,7 +29,8 @@ use Rattle.rules.proofs.Same.{same-refl, same-number}
 use Rattle.rules.proofs.Changes.{changed-at, changed-both}
 use Rattle.rules.proofs.Rows.{distinct-later, distinct-fresh}
 use Rattle.rules.proofs.Plans.{kindOf, every-plan}
-use Rattle.rules.proofs.Within.{each-within}
+use Rattle.rules.proofs.Marks.{session-kept, marks-changed, marked}
+use Rattle.rules.proofs.Within.{asked-within, plan-within}
 use Rattle.rules.proofs.Sessions.{Relays, each-relays}
 use Rattle.rules.proofs.Ids.{run-distinct}
 use Rattle.rules.proofs.Spare.{fresh-spare, run-spare}
@@ -79,8 +81,9 @@ module _ (tables : Tables) (call : Call) where
       go : Dec (Accepted tables call)
           → WithinPartner (callerOf call) tables (o .tables .connections) (o .tables .leases) (o .answer .destination)
       go (yes e) =
-          let each = each-within tables (timeOf call) (connectionOf call) (received call) (kindOf call) in
-          rw (is-done tables call e) (unfold done in every-plan _ tables call (done-passed tables call e) each)
+          let w = plan-within tables call (done-passed tables call e) in
+          rw (is-done tables call e)
+          (unfold done in record { connections = w .connections .at; leases = w .leases .at; destination = w .destination })
       go (no n) =
           rw
           (refused-leaves-all tables call n)
@@ -125,10 +128,24 @@ module _ (tables : Tables) (call : Call) where
     ok : Passed tables call
     ok = passed tables call (done-passed tables call e)
 
-    relays : Relays tables (timeOf call) (connectionOf call) (ok .connections) (ok .known) (plan tables call)
+    relays : Relays tables (timeOf call) (connectionOf call) (ok .connections) (ok .known) (planCall tables call)
     relays =
         let each = each-relays tables (timeOf call) (connectionOf call) (ok .connections) (ok .known) (received call) (kindOf call) in
         every-plan _ tables call (done-passed tables call e) each
+
+    -- what is written of the messages that were sent and heard changes no session
+    sessions-kept : (c d : ℕ) → inSession (plan tables call .connections) c d ≡ inSession (planCall tables call .connections) c d
+    unfolding plan
+    sessions-kept c d = session-kept (marks-changed call (planCall tables call)) c d
+
+    -- "4-8 the reading of the last message sent to it", "Any done message from the connection clears byte 2."
+    pub marks-written : Marked call o
+    unfolding done plan
+    marks-written =
+        let w = asked-within tables call (done-passed tables call e) in
+        let m = marked call (planCall tables call) (w .connections .long ∙ ok .connections) (ok .known) (ok .in-limit)
+        (λ n. omega (arith, w .to-own n, ok .known)) in
+        rw (is-done tables call e) (record { replied = m .replied; relayed = m .relayed; cleared = m .cleared })
 
     -- "A done charged call stores the level left and its reading as moment"; a free one changes the clock alone.
     pub charge-stored : charged call ≡ true
@@ -146,15 +163,15 @@ module _ (tables : Tables) (call : Call) where
 
     -- "With nothing in the relay tray the destination is 255."
     pub nothing-to-nobody : o .answer .relayLength ≡ 0 → o .answer .destination ≡ nobody
-    unfolding done
+    unfolding done plan
     nothing-to-nobody = rw (is-done tables call e) (relays .empty)
 
     -- Whatever is relayed goes to a connection that is in session with the caller, before the call or after it.
     pub relayed-to-paired : o .answer .destination ≢ nobody
         → (inSession (tables .connections) (connectionOf call) (o .answer .destination) ≡ true)
         ⊎ (inSession (o .tables .connections) (connectionOf call) (o .answer .destination) ≡ true)
-    unfolding done
-    relayed-to-paired = rw (is-done tables call e) (relays .to-paired)
+    unfolding done plan
+    relayed-to-paired = rw (is-done tables call e) (λ n. ⊎-elim (λ s. inl s) (λ s. inr (sessions-kept _ _ ∙ s)) (relays .to-paired n))
 
 -- ---- runs, from a fresh start
 

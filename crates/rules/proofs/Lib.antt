@@ -1,4 +1,4 @@
--- The laws of the rules. For readers: Sizes, Fresh, TableLaws; Refusals, Reasons; CallLaws, MessageLaws, Leases, Room, Disconnects; Keys, Neighbours,
+-- The laws of the rules. For readers: Sizes, Fresh, TableLaws; Refusals, Reasons; CallLaws, MessageLaws, KeepaliveLaws, Leases, Marks, Room, Disconnects; Keys, Neighbours,
 -- Laws; Charges, Demand3. The others serve these.
 pub mod Sizes
 pub mod Searches
@@ -19,12 +19,12 @@ pub mod Decisions
 pub mod Leases
 pub mod Reading
 pub mod Plans
+pub mod Marks
 pub mod Within
 pub mod Sessions
 pub mod Ids
 pub mod Spare
 pub mod Room
-pub mod Disconnects
 pub mod Metered
 pub mod Demand3
 pub mod SamePlans
@@ -35,3 +35,5 @@ pub mod Reasons
 pub mod Laws
 pub mod MessageLaws
 pub mod CallLaws
+pub mod KeepaliveLaws
+pub mod Disconnects

@@ -1,6 +1,6 @@
 -- What each message does where it is answered with 0: the whole answer, both buffers, and every byte of the tables. Assumes nothing.
 use Prim.Native.Nat.{ℕ, _+_, _^_, _≤_, _<_}
-use mathlib.Core.Path.{_≡_, refl, ap, _∙_}
+use mathlib.Core.Path.{_≡_, refl, sym, ap, _∙_}
 use mathlib.Core.Logic.{_≢_, ⊎-elim}
 use mathlib.Core.Bool.{true, false, _||_, true≢false}
 use mathlib.Core.Option.{some}
@@ -16,14 +16,16 @@ use Rattle.octets.proofs.Parts.{length-part}
 use Rattle.svsc.specs.Messages.{Message, cookieBytes, VersionAnswer, LeaseGranted, ExtensionRequest, ExtensionGranted, EstablishRequest, EstablishRefused, Established, EstablishNotification, SessionEnd, DataSend, Keepalive, encode, typeOf, decode}
 use Rattle.rules.specs.Sizes.{connectionCount, rowCount, randomBytes}
 use Rattle.rules.specs.Searches.{endRow}
-use Rattle.rules.specs.Tables.{Tables, partnerOf, connectionAt, opened, state, peer, inSession, hasSession, idOf, cookieAt, cookieOf}
+use Rattle.rules.specs.Tables.{Tables, partnerOf, connectionAt, opened, state, peer, inSession, hasSession, setState, idOf, cookieAt, cookieOf}
 use Rattle.rules.specs.Leases.{LeaseDecision, holdsLease, noSpareRow, cookieInUse, noFreeId, renewed, granted, decideLease, leaseEnd, rowToExtend}
-use Rattle.rules.specs.Sessions.{refusedWith, establishedWith, decideEstablish}
+use Rattle.rules.specs.Sessions.{refusedWith, establishedWith, decideEstablish, clear, establish, endSession}
+use Rattle.rules.specs.Keepalives.{stamp}
 use Rattle.rules.specs.Calls.{Call, message, Outcome}
-use Rattle.rules.specs.Plans.{replyOnly, relayOnly, planVersionAnswer, planLease, planExtension, planEstablish, planEnd, planData, planMessage, plan}
+use Rattle.rules.specs.Plans.{Plan, replyOnly, relayOnly, planVersionAnswer, planLease, planExtension, planEstablish, planEnd, planData, planMessage, planCall, heard, stamped, plan}
 use Rattle.rules.specs.Checks.{precheck}
 use Rattle.rules.specs.Step.{step, done}
-use Rattle.rules.specs.Effects.{RepliedOnly, RelayedOnly, SentNothing, VersionTaken, VersionRefused, KeysToOwners, SessionEnded, DataRelayed, TablesStay, LeaseTold, LeaseRenewed, isAccepted, Extendable, ExtensionTold}
+use Rattle.rules.specs.Bytes.{ChangedOnly}
+use Rattle.rules.specs.Effects.{RepliedOnly, RelayedOnly, SentNothing, VersionTaken, VersionRefused, KeysToOwners, SessionEnded, DataRelayed, MarksOnly, InUnanswered, InOwnMarks, LeaseTold, LeaseRenewed, isAccepted, Extendable, ExtensionTold}
 use Rattle.rules.specs.Laws.{Accepted}
 use Rattle.rules.proofs.Checks.{Passed, passed, from-peer, random-length, has-session, is-permitted, open-permits}
 use Rattle.rules.proofs.Records.{byte-put}
@@ -32,7 +34,9 @@ use Rattle.rules.proofs.Plans.{lease-plan}
 use Rattle.rules.proofs.Answers.{is-done, done-passed}
 use Rattle.rules.proofs.Connections.{cleared-record, fresh-record, paired, end-clears-first, end-clears-second, all-keys}
 use Rattle.rules.proofs.Rows.{expiry-set, granted-row, renewed-row}
-use Rattle.rules.proofs.Changes.{changed-state, changed-clear, changed-end, changed-expiry, changed-grant, changed-renew}
+use Rattle.rules.proofs.Changes.{changed-more, changed-both, changed-state, changed-clear, changed-end, changed-expiry, changed-grant, changed-renew}
+use Rattle.rules.proofs.Same.{same-trans}
+use Rattle.rules.proofs.Marks.{InMarks, changed-answered, session-kept, keys-kept, cleared-kept, own-marks, relay-marks, both-marks, fresh-answered, marks-changed}
 use Rattle.rules.proofs.Decisions.{is-renewed, is-granted, is-extended, is-established}
 use Rattle.rules.proofs.Leases.{extension-exactly, renewable-exactly}
 use Rattle.rules.proofs.Sessions.{establish-pairs, callers-record, holders-record, changed-establish}
@@ -44,7 +48,7 @@ module _ (tables : Tables) (call : Call) (cs ls : List ℕ) where
   unfolding done put
   replied bytes = record { answer = refl; reply = refl; relay = refl }
 
-  pub relayed : (bytes : List ℕ) (d : ℕ) → RelayedOnly call (done tables call (relayOnly cs ls bytes d)) bytes d
+  relayed : (bytes : List ℕ) (d : ℕ) → RelayedOnly call (done tables call (relayOnly cs ls bytes d)) bytes d
   unfolding done put
   relayed bytes d = record { answer = refl; reply = refl; relay = refl }
 
@@ -82,9 +86,13 @@ module _
     long : length random ≡ randomBytes
     long = random-length tables now c m random reply relay h
 
+    -- a plan with what is written of the messages that it sends and of this one
+    abbrev marks : Plan → Plan
+    marks x = stamped now c (heard sent x)
+
     -- the outcome, where the message is x
-    outcome-of : (x : Message) → decode m ≡ some x → o ≡ done tables sent (planMessage tables now c random (some x))
-    unfolding plan
+    outcome-of : (x : Message) → decode m ≡ some x → o ≡ done tables sent (marks (planMessage tables now c random (some x)))
+    unfolding plan planCall
     outcome-of x d = is-done tables sent e ∙ rw d
 
     session : eqb (typeOf m) 9 || eqb (typeOf m) 11 ≡ true → inSession cs c (peer cs c) ≡ true
@@ -94,24 +102,31 @@ module _
     -- ---- the version answer
 
     pub answered-ok : decode m ≡ some (VersionAnswer 1) → VersionTaken tables sent c o
-    unfolding done planMessage planVersionAnswer
+    unfolding done planMessage planVersionAnswer stamp
     answered-ok d =
+        let opens = setState cs c opened in
         rw (outcome-of (VersionAnswer 1) d)
         (record {
           sent = sent-nothing tables sent _ ls;
-          own = byte-put cs (connectionAt c) opened (omega (arith, ok .connections, ok .known));
-          others = changed-state cs c opened;
+          own =
+              sym (changed-answered opens c .at (connectionAt c) (λ p. omega (arith, p .0)))
+              ∙ byte-put cs (connectionAt c) opened (omega (arith, ok .connections, ok .known));
+          others = changed-both (changed-state cs c opened) (changed-answered opens c);
           leases = refl;
         })
 
     pub answered-not-ok : decode m ≡ some (VersionAnswer 0) → VersionRefused tables sent c o
-    unfolding done put planMessage planVersionAnswer
+    unfolding done put planMessage planVersionAnswer stamp
     answered-not-ok d =
         rw (outcome-of (VersionAnswer 0) d)
         (record {
           sent = record { answer = refl; reply = refl; relay = refl };
-          own = fresh-record _ c (cleared-record cs c (ok .connections) (ok .known));
-          others = changed-clear cs c;
+          own =
+              fresh-answered (clear cs c) c 0 (sym (changed-clear cs c .long) ∙ ok .connections) (ok .known)
+              (fresh-record _ c (cleared-record cs c (ok .connections) (ok .known)));
+          others =
+              same-trans (changed-clear cs c)
+              (changed-more (λ i p. (omega (arith, p .0), omega (arith, p .1))) (changed-answered (clear cs c) c));
           leases = refl;
         })
 
@@ -119,11 +134,15 @@ module _
 
     -- Data goes to the paired connection only.
     pub data-to-paired : typeOf m ≡ 11 → DataRelayed tables sent c (peer cs c) o (12 ∷ drop 1 m)
-    unfolding done planMessage planData encode
+    unfolding done planMessage planData encode stamp
     data-to-paired t =
         rw
         (outcome-of (DataSend (drop 1 m)) (data-read m (from-peer tables now c m random reply relay h) t))
-        (record { paired = session (rw t); sent = relayed tables sent cs ls _ _; connections = refl; leases = refl })
+        (record {
+          paired = session (rw t);
+          sent = relayed tables sent _ ls _ _;
+          stay = record { connections = relay-marks cs now c (length (12 ∷ drop 1 m)) (peer cs c); leases = refl };
+        })
 
     -- Each pair is told to its owner and stands in its owner's record, and nothing else is written.
     pub keys-to-owners : (id : ℕ) → decode m ≡ some (EstablishRequest id)
@@ -136,19 +155,26 @@ module _
         let theirs = holders-record cs c hold random (ok .connections) (ok .known) long holding in
         let may = rw (decode-type m (EstablishRequest id) d) at (is-permitted tables now c m random reply relay h) in
         let is-open = eq-eqb _ opened (open-permits (state cs c) (unfold encode in may)) in
+        let joined = establish cs c hold random in
+        let marked : Plan = marks (planEstablish tables c id random (establishedWith hold)) in
+        let changed : ChangedOnly InMarks joined (marked .connections) =
+        marks-changed sent (planEstablish tables c id random (establishedWith hold)) in
         rw (outcome-of (EstablishRequest id) d, s)
         (record {
           answer = rw (told-length _ _ _ (key _ (lit≤ tt)) (key _ (lit≤ tt)) (key _ (lit≤ tt)) id, keys-length _ _ _ (key _ (lit≤ tt)) (key _ (lit≤ tt)) (key _ (lit≤ tt)));
           reply = refl;
           relay = refl;
-          paired = establish-pairs cs c hold random (ok .connections) (ok .known) long holding is-open;
-          caller-session = mine .session;
-          caller-id = mine .peer-id;
-          caller-key = mine .peer-key;
-          holder-session = theirs .session;
-          holder-id = theirs .peer-id;
-          holder-key = theirs .peer-key;
-          others = changed-establish cs c hold random (ok .connections) (ok .known) long holding;
+          paired = session-kept changed c hold ∙ establish-pairs cs c hold random (ok .connections) (ok .known) long holding is-open;
+          caller-session = keys-kept changed c _ 16 (omega arith) (omega arith) ∙ mine .session;
+          caller-id = keys-kept changed c _ 16 (omega arith) (omega arith) ∙ mine .peer-id;
+          caller-key = keys-kept changed c _ 16 (omega arith) (omega arith) ∙ mine .peer-key;
+          holder-session = keys-kept changed hold _ 16 (omega arith) (omega arith) ∙ theirs .session;
+          holder-id = keys-kept changed hold _ 16 (omega arith) (omega arith) ∙ theirs .peer-id;
+          holder-key = keys-kept changed hold _ 16 (omega arith) (omega arith) ∙ theirs .peer-key;
+          others =
+              changed-both
+              (changed-establish cs c hold random (ok .connections) (ok .known) long holding)
+              (both-marks joined now c _ _ hold);
           leases = refl;
         })
       where
@@ -158,31 +184,36 @@ module _
     -- An establish request that is not met is told its status, and changes nothing.
     pub establish-refused : (id : ℕ) → decode m ≡ some (EstablishRequest id)
         → (status : ℕ) → decideEstablish cs ls now c id ≡ refusedWith status
-        → RepliedOnly sent o (encode (EstablishRefused id status)) × TablesStay tables o
-    unfolding done planMessage planEstablish
+        → RepliedOnly sent o (encode (EstablishRefused id status)) × MarksOnly (InOwnMarks c) tables o
+    unfolding done planMessage planEstablish stamp
     establish-refused id d status s =
-        rw (outcome-of (EstablishRequest id) d, s) (replied tables sent cs ls _, record { connections = refl; leases = refl })
+        let told = length (encode (EstablishRefused id status)) in
+        rw (outcome-of (EstablishRequest id) d, s)
+        (replied tables sent _ ls _, record { connections = own-marks cs now c told; leases = refl })
 
     -- Both sides of a session end, and the other is told.
     pub ended-both : typeOf m ≡ 9 → SessionEnded tables sent c (peer cs c) o (10 ∷ [])
-    unfolding done planMessage planEnd encode
+    unfolding done planMessage planEnd encode stamp
     ended-both t =
+        let ended = endSession cs c (peer cs c) in
+        let changed = marks-changed sent (planEnd tables c) in
         let two = paired cs c (peer cs c) (session (rw t)) in
         let d< : peer cs c < connectionCount = omega (arith, two .of-one, ok .known) in
         rw (outcome-of SessionEnd (end-read m (from-peer tables now c m random reply relay h) t))
         (record {
           paired = session (rw t);
           sent = relayed tables sent _ ls _ _;
-          own = end-clears-first cs c (peer cs c) (ok .connections) (ok .known) d< (two .differ);
-          other = end-clears-second cs c (peer cs c) (ok .connections) (ok .known) d< (two .differ);
-          others = changed-end cs c (peer cs c);
+          own = cleared-kept changed c (end-clears-first cs c (peer cs c) (ok .connections) (ok .known) d< (two .differ));
+          other = cleared-kept changed (peer cs c) (end-clears-second cs c (peer cs c) (ok .connections) (ok .known) d< (two .differ));
+          others = changed-both (changed-end cs c (peer cs c)) (relay-marks ended now c 1 (peer cs c));
           leases = refl;
         })
 
-    -- A keepalive is not answered, and changes no record.
-    pub keepalive-quiet : decode m ≡ some Keepalive → SentNothing sent o false × TablesStay tables o
-    unfolding done planMessage
-    keepalive-quiet d = rw (outcome-of Keepalive d) (sent-nothing tables sent cs ls, record { connections = refl; leases = refl })
+    -- A keepalive is not answered, and of all records clears the one byte.
+    pub keepalive-heard : decode m ≡ some Keepalive → SentNothing sent o false × MarksOnly (InUnanswered c) tables o
+    unfolding done planMessage stamp
+    keepalive-heard d =
+        rw (outcome-of Keepalive d) (sent-nothing tables sent _ ls, record { connections = changed-answered cs c; leases = refl })
 
     -- ---- leases
 
@@ -190,10 +221,10 @@ module _
     abbrev decision : LeaseDecision
     decision = decideLease cs ls now c random (part m 2 24)
 
-    lease-outcome : typeOf m ≡ 2 → o ≡ done tables sent (planLease tables now c decision)
-    unfolding plan
+    lease-outcome : typeOf m ≡ 2 → o ≡ done tables sent (marks (planLease tables now c decision))
+    unfolding plan planCall
     lease-outcome t =
-        is-done tables sent e ∙ ap (done tables sent) (lease-plan tables now c m random (from-peer tables now c m random reply relay h) t)
+        is-done tables sent e ∙ ap (λ (x : Plan). done tables sent (marks x)) (lease-plan tables now c m random (from-peer tables now c m random reply relay h) t)
 
     until< : now + 3600 < 256 ^ 8
     until< = omega (arith, ok .in-limit)
@@ -201,31 +232,31 @@ module _
     -- A new lease is told as it stands in its row: id, cookie, this holder, and an hour from now.
     pub lease-told : typeOf m ≡ 2 → (row id : ℕ) (cookie : List ℕ) → decision ≡ granted row id cookie
         → LeaseTold tables sent row (now + 3600) id cookie c o (encode (LeaseGranted id cookie (now + 3600)))
-    unfolding done planLease leaseEnd
+    unfolding done planLease leaseEnd stamp
     lease-told t row id cookie d =
         let g = is-granted ls now c random cs (part m 2 24) row id cookie d in
         let size : length cookie ≡ cookieBytes = rw (g .cookie-is) (length-part random 0 cookieBytes (omega (arith, long))) in
         let row< : row < rowCount = omega (arith, g .own .high, ok .known) in
         rw (lease-outcome t, d)
         (record {
-          sent = replied tables sent cs _ _;
+          sent = replied tables sent _ _ _;
           written = granted-row ls row (now + 3600) id cookie c (ok .leases) row< until< (g .id-small) size;
           others = changed-grant ls row (now + 3600) id cookie c (omega arith);
-          connections = refl;
+          connections = own-marks cs now c (length (encode (LeaseGranted id cookie (now + 3600))));
         })
 
     -- A renewed one is told with the id and the cookie that it had, and has this holder and an hour from now; nothing else changes.
     pub lease-renewed : typeOf m ≡ 2 → (row : ℕ) → decision ≡ renewed row
         → LeaseRenewed tables sent row (now + 3600) c o (encode (LeaseGranted (idOf ls row) (cookieOf ls row) (now + 3600)))
-    unfolding done planLease leaseEnd
+    unfolding done planLease leaseEnd stamp
     lease-renewed t row d =
         let row< : row < rowCount = omega (arith, is-renewed ls now c random cs (part m 2 24) row d .own .high, ok .known) in
         rw (lease-outcome t, d)
         (record {
-          sent = replied tables sent cs _ _;
+          sent = replied tables sent _ _ _;
           written = renewed-row ls row (now + 3600) c (ok .leases) row< until<;
           others = changed-renew ls row (now + 3600) c;
-          connections = refl;
+          connections = own-marks cs now c (length (encode (LeaseGranted (idOf ls row) (cookieOf ls row) (now + 3600))));
         })
 
     -- A request without a cookie is not one for renewal: no row has a cookie of no bytes.
@@ -240,17 +271,17 @@ module _
         omega (arith, ap length cookie-is)
 
     -- Otherwise accepted 0, and nothing changes.
-    pub lease-refused : typeOf m ≡ 2 → isAccepted decision ≡ false → RepliedOnly sent o (3 ∷ 0 ∷ []) × TablesStay tables o
-    unfolding done planLease encode
+    pub lease-refused : typeOf m ≡ 2 → isAccepted decision ≡ false → RepliedOnly sent o (3 ∷ 0 ∷ []) × MarksOnly (InOwnMarks c) tables o
+    unfolding done planLease encode stamp
     lease-refused t n = rw (lease-outcome t) (go decision n)
       where
-        refused : RepliedOnly sent (done tables sent (replyOnly cs ls (3 ∷ 0 ∷ []))) (3 ∷ 0 ∷ [])
-            × TablesStay tables (done tables sent (replyOnly cs ls (3 ∷ 0 ∷ [])))
-        refused = (replied tables sent cs ls _, record { connections = refl; leases = refl })
+        refused : RepliedOnly sent (done tables sent (marks (replyOnly cs ls (3 ∷ 0 ∷ [])))) (3 ∷ 0 ∷ [])
+            × MarksOnly (InOwnMarks c) tables (done tables sent (marks (replyOnly cs ls (3 ∷ 0 ∷ []))))
+        refused = (replied tables sent _ ls _, record { connections = own-marks cs now c 2; leases = refl })
 
         go : (d : LeaseDecision) → isAccepted d ≡ false
-            → RepliedOnly sent (done tables sent (planLease tables now c d)) (3 ∷ 0 ∷ [])
-            × TablesStay tables (done tables sent (planLease tables now c d))
+            → RepliedOnly sent (done tables sent (marks (planLease tables now c d))) (3 ∷ 0 ∷ [])
+            × MarksOnly (InOwnMarks c) tables (done tables sent (marks (planLease tables now c d)))
         go holdsLease n = refused
         go noSpareRow n = refused
         go cookieInUse n = refused
@@ -260,8 +291,8 @@ module _
 
     -- An extension for which there is a row gives it an hour from now, and says so.
     pub extension-told : (cookie : List ℕ) → decode m ≡ some (ExtensionRequest cookie) → Extendable ls now c cookie
-        → ExtensionTold tables sent (rowToExtend ls now c cookie) (now + 3600) o (encode (ExtensionGranted (now + 3600)))
-    unfolding done planMessage planExtension leaseEnd
+        → ExtensionTold tables sent (rowToExtend ls now c cookie) (now + 3600) c o (encode (ExtensionGranted (now + 3600)))
+    unfolding done planMessage planExtension leaseEnd stamp
     extension-told cookie d q =
         let found = extension-exactly ls now c cookie .1 q in
         let own = is-extended ls now c cookie found .0 in
@@ -269,18 +300,19 @@ module _
         rw
         (outcome-of (ExtensionRequest cookie) d, found)
         (record {
-          sent = replied tables sent cs _ _;
+          sent = replied tables sent _ _ _;
           written = expiry-set ls (rowToExtend ls now c cookie) (now + 3600) (ok .leases) row< until<;
           others = changed-expiry ls _ (now + 3600);
-          connections = refl;
+          connections = own-marks cs now c (length (encode (ExtensionGranted (now + 3600))));
         })
 
     -- Otherwise extended 0, and nothing changes.
     pub extension-refused : (cookie : List ℕ) → decode m ≡ some (ExtensionRequest cookie) → (Extendable ls now c cookie → ⊥)
-        → RepliedOnly sent o (5 ∷ 0 ∷ []) × TablesStay tables o
-    unfolding done planMessage planExtension encode
+        → RepliedOnly sent o (5 ∷ 0 ∷ []) × MarksOnly (InOwnMarks c) tables o
+    unfolding done planMessage planExtension encode stamp
     extension-refused cookie d n =
-        rw (outcome-of (ExtensionRequest cookie) d, none) (replied tables sent cs ls _, record { connections = refl; leases = refl })
+        rw (outcome-of (ExtensionRequest cookie) d, none)
+        (replied tables sent _ ls _, record { connections = own-marks cs now c 2; leases = refl })
       where
         none : ltb (rowToExtend ls now c cookie) (endRow (partnerOf c)) ≡ false
         none = ⊎-elim (λ y. absurd (n (extension-exactly ls now c cookie .0 y))) (λ y. y) (by-test _)

@@ -16,7 +16,7 @@ use Rattle.allowance.specs.Meter.{Metered}
 use Rattle.allowance.proofs.Numbers.{level≤capacity}
 use Rattle.rules.specs.Sizes.{partners, allowancesSize, callCost, retryAfter, timeLimit}
 use Rattle.rules.specs.Tables.{Tables, bucketOf, clock, setBucket, setClock, allowanceAt, bucketBytes}
-use Rattle.rules.specs.Calls.{Call, opening, message, closing, timeOf, callerOf, Outcome}
+use Rattle.rules.specs.Calls.{Call, opening, message, closing, keepalive, timeOf, callerOf, Outcome}
 use Rattle.rules.specs.Charges.{charged, received, cost, price, callerLevel, charge}
 use Rattle.rules.specs.Checks.{precheck, firstEight}
 use Rattle.rules.specs.Step.{step, done}
@@ -80,6 +80,7 @@ price-most tables call h = go (charged call) (most call h)
     most (opening now c reply) h = lit≤ tt
     most (message now c m random reply relay) h = peer-length m (from-peer tables now c m random reply relay h)
     most (closing now c relay) h = lit≤ tt
+    most (keepalive now c reply relay) h = lit≤ tt
 
 -- ---- one call
 

@@ -1,4 +1,4 @@
--- What is shown of each kind of plan holds of the plan of every call that passed the first eight checks. Assumes nothing.
+-- What is shown of each kind of plan holds of what every call that passed the first eight checks asks for. Assumes nothing.
 use Prim.Native.Nat.{ℕ, suc}
 use mathlib.Core.Path.{_≡_, refl}
 use mathlib.Core.Logic.{⊎-elim}
@@ -14,12 +14,18 @@ use Rattle.rules.specs.Sizes.{randomBytes}
 use Rattle.rules.specs.Tables.{Tables, opened, state, isOpen, hasSession}
 use Rattle.rules.specs.Leases.{LeaseDecision, holdsLease, noSpareRow, cookieInUse, noFreeId, renewed, granted, decideLease}
 use Rattle.rules.specs.Sessions.{decideEstablish}
-use Rattle.rules.specs.Calls.{Call, opening, message, closing, timeOf, connectionOf}
+use Rattle.rules.specs.Keepalives.{isDead, isDue, ask}
+use Rattle.rules.specs.Calls.{Call, opening, message, closing, keepalive, timeOf, connectionOf}
 use Rattle.rules.specs.Charges.{received}
-use Rattle.rules.specs.Plans.{Plan, doNothing, refuseLease, planOpen, planVersionAnswer, planLease, planExtension, planEstablish, planEnd, planData, planClose, planMessage, plan}
+use Rattle.rules.specs.Plans.{Plan, replyOnly, doNothing, refuseLease, planOpen, planVersionAnswer, planLease, planExtension, planEstablish, planEnd, planData, planClose, planMessage, disconnecting, planKeepalive, planCall}
 use Rattle.rules.specs.Checks.{permits, precheck}
 use Rattle.rules.proofs.Checks.{random-length, has-session, is-permitted, open-permits}
 use Rattle.rules.proofs.Messages.{decode-type, data-length, lease-read, no-cookie}
+
+-- a test that decides between two plans
+pub by-test : {A : Type 0} (P : A → Type 0) (t : Bool) {a b : A} → (t ≡ true → P a) → (t ≡ false → P b) → P (if t then a else b)
+by-test P true f g = f refl
+by-test P false f g = g refl
 
 -- What is to be shown of each kind of plan, so that it holds of every one.
 pub record Each (P : Plan → Type 0) (tables : Tables) (now c received kind : ℕ) : Type 0 where
@@ -33,6 +39,8 @@ pub record Each (P : Plan → Type 0) (tables : Tables) (now c received kind : �
   pub data-plan : hasSession (tables .connections) c ≡ true → (bytes : List ℕ) → suc (length bytes) ≡ received → P (planData tables c bytes)
   pub no-plan : P (doNothing tables)
   pub close-plan : P (planClose tables c)
+  pub dead-plan : kind ≡ 15 → P (disconnecting (planClose tables c))
+  pub ask-plan : P (replyOnly (ask (tables .connections) now c) (tables .leases) (encode Keepalive))
 
 module _
     (P : Plan → Type 0) (tables : Tables) (now c n kind : ℕ) (each : Each P tables now c n kind)
@@ -69,15 +77,16 @@ module _
     of-message (some (DataReceive bytes)) ok h l t = each .no-plan
     of-message none ok h l t = each .no-plan
 
--- the type of a message; 14, no type, of an open and a close
+-- the type of a message; 14 and 15, no types, of an open and a close, and of a keepalive
 abbrev pub kindOf : Call → ℕ
 kindOf (opening now c reply) = 14
 kindOf (message now c m random reply relay) = typeOf m
 kindOf (closing now c relay) = 14
+kindOf (keepalive now c reply relay) = 15
 
 pub every-plan : (P : Plan → Type 0) (tables : Tables) (call : Call) → precheck tables call ≡ 0
-    → Each P tables (timeOf call) (connectionOf call) (received call) (kindOf call) → P (plan tables call)
-unfolding plan
+    → Each P tables (timeOf call) (connectionOf call) (received call) (kindOf call) → P (planCall tables call)
+unfolding planCall planKeepalive
 every-plan P tables (opening now c reply) h each = each .open-plan
 every-plan P tables (message now c m random reply relay) h each =
     of-message P tables now c (length m) (typeOf m) each random (random-length tables now c m random reply relay h) (decode m)
@@ -86,6 +95,10 @@ every-plan P tables (message now c m random reply relay) h each =
     (data-length m)
     (decode-type m)
 every-plan P tables (closing now c relay) h each = each .close-plan
+every-plan P tables (keepalive now c reply relay) h each =
+    by-test P (isDead (tables .connections) now c)
+    (λ t. each .dead-plan refl)
+    (λ t. by-test P (isDue (tables .connections) now c) (λ u. each .ask-plan) (λ u. each .no-plan))
 
 -- A message of type 2 asks for a lease, with the cookie behind its first two bytes: no bytes, if it has none.
 pub lease-plan : (tables : Tables) (now c : ℕ) (m random : List ℕ) → fromPeer m ≡ true → typeOf m ≡ 2
@@ -106,8 +119,3 @@ module _ (P : Plan → Type 0) (tables : Tables) (now c : ℕ) where
   by-lease noFreeId r f g = r
   by-lease (renewed row) r f g = f row refl
   by-lease (granted row id cookie) r f g = g row id cookie refl
-
--- a test that decides between two plans
-pub by-test : {A : Type 0} (P : A → Type 0) (t : Bool) {a b : A} → (t ≡ true → P a) → (t ≡ false → P b) → P (if t then a else b)
-by-test P true f g = f refl
-by-test P false f g = g refl

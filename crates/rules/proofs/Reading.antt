@@ -9,11 +9,12 @@ use lib.Dec.{eqb, leb, ltb}
 use borrow.Author.Tests.{ltb-true, eqb-true, not-false}
 use Rattle.octets.specs.Octets.{if_then_else_}
 use Rattle.octets.proofs.Tests.{both-left}
-use Rattle.rules.specs.Sizes.{rowsPerPartner, candidateCount, leaseBytes, nobody}
+use Rattle.rules.specs.Sizes.{rowsPerPartner, candidateCount, leaseBytes, timeBytes, nobody}
 use Rattle.rules.specs.Searches.{firstFrom, anyFrom, firstRow, endRow, firstOwn, anyOwn}
-use Rattle.rules.specs.Tables.{partnerOf, ownerOf, connectionAt, peerAt, keysAt, leaseAt, idAt, holderAt, cookieAt, opened, closed, state, peer, inSession, hasSession, expiry, idOf, holder, cookieOf, live, liveWithId, holderCounts}
+use Rattle.rules.specs.Tables.{partnerOf, ownerOf, connectionAt, peerAt, unansweredAt, lastSentAt, keepaliveAt, keysAt, leaseAt, idAt, holderAt, cookieAt, opened, closed, state, peer, inSession, hasSession, isUnanswered, lastSent, keepaliveSent, expiry, idOf, holder, cookieOf, live, liveWithId, holderCounts}
 use Rattle.rules.specs.Leases.{randomCookie, candidate, idTaken, firstFree, holdsRow, isEarlier, isEarliest, spareRow, cookieTaken, idElsewhere, renewable, rowToRenew, renewOrGrant, decideLease, rowToExtend, releaseFrom}
 use Rattle.rules.specs.Sessions.{rowOfId, decideEstablish}
+use Rattle.rules.specs.Keepalives.{isDead, isDue}
 use Rattle.rules.specs.Bytes.{SameAt}
 use Rattle.rules.proofs.Searches.{first-turn, any-turn}
 use Rattle.rules.proofs.Same.{same-part, same-number, same-put}
@@ -78,6 +79,28 @@ module _
     pub has-session-same : (c : ℕ) → Q (partnerOf c) → hasSession cs c ≡ hasSession ds c
     unfolding hasSession
     has-session-same c h = in-session-same c (peer cs c) h ∙ ap (inSession ds c) (peer-same c h)
+
+    -- ---- an unanswered keepalive
+
+    unanswered-same : (c : ℕ) → Q (partnerOf c) → isUnanswered cs c ≡ isUnanswered ds c
+    unfolding isUnanswered
+    unanswered-same c h = ap (λ (n : ℕ). eqb n 1) (s .at (unansweredAt c) (heads c _ h (omega arith) (omega arith)))
+
+    last-sent-same : (c : ℕ) → Q (partnerOf c) → lastSent cs c ≡ lastSent ds c
+    unfolding lastSent
+    last-sent-same c h = same-number s (lastSentAt c) timeBytes (λ i l u. heads c i h (omega arith) (omega arith))
+
+    keepalive-same : (c : ℕ) → Q (partnerOf c) → keepaliveSent cs c ≡ keepaliveSent ds c
+    unfolding keepaliveSent
+    keepalive-same c h = same-number s (keepaliveAt c) timeBytes (λ i l u. heads c i h (omega arith) (omega arith))
+
+    pub dead-same : (now c : ℕ) → Q (partnerOf c) → isDead cs now c ≡ isDead ds now c
+    unfolding isDead
+    dead-same now c h = rw (unanswered-same c h, keepalive-same c h)
+
+    pub due-same : (now c : ℕ) → Q (partnerOf c) → isDue cs now c ≡ isDue ds now c
+    unfolding isDue
+    due-same now c h = rw (unanswered-same c h, last-sent-same c h)
 
 -- ---- lease rows
 

@@ -24,8 +24,8 @@ use Rattle.rules.specs.Sizes.{partners, allowancesSize}
 use Rattle.rules.specs.Tables.{Tables, allowanceAt, updatedAt, bucketOf, clock, sized}
 use Rattle.rules.specs.Leases.{LeaseDecision, holdsLease, noSpareRow, cookieInUse, noFreeId, renewed, granted, decideLease}
 use Rattle.rules.specs.Sessions.{EstablishDecision, refusedWith, establishedWith, decideEstablish}
-use Rattle.rules.specs.Calls.{Call, opening, message, closing, timeOf, callerOf, replyBuffer}
-use Rattle.rules.specs.Plans.{planLease, planEstablish, planMessage, plan}
+use Rattle.rules.specs.Calls.{Call, opening, message, closing, keepalive, timeOf, callerOf, replyBuffer}
+use Rattle.rules.specs.Plans.{planLease, planEstablish, planMessage, planCall, plan}
 use Rattle.rules.specs.Charges.{charged, cost, price, callerLevel}
 use Rattle.rules.specs.Checks.{wrongTime, wrongState, wrongLengths, notFromPeer, notPermitted, noSession, aboveLevel, firstEight, checks, precheck, check}
 use Rattle.rules.specs.Step.{step, done}
@@ -65,11 +65,11 @@ module _ (tables : Tables) (call : Call) where
   named-refused n = named ∙ rw (ne-eqb _ 0 n)
 
   -- a byte of the reply of a call that is done
-  reply-byte : Accepted tables call → (i : ℕ) → i < length (plan tables call .reply)
-      → byteAt (step tables call .reply) i ≡ byteAt (plan tables call .reply) i
-  unfolding done
+  reply-byte : Accepted tables call → (i : ℕ) → i < length (planCall tables call .reply)
+      → byteAt (step tables call .reply) i ≡ byteAt (planCall tables call .reply) i
+  unfolding done plan
   reply-byte e i l =
-      let bytes = plan tables call .reply in
+      let bytes = planCall tables call .reply in
       let fits : length bytes ≤ length (replyBuffer call) = rw (is-done tables call e) at (messages-fit tables call e .0) in
       rw (is-done tables call e)
       (ap (byteAt (put (replyBuffer call) 0 bytes)) (sym (zero-add i))
@@ -132,8 +132,8 @@ module _ (tables : Tables) (now c : ℕ) (m random reply relay : List ℕ) where
       (λ t. rw (eq-eqb (typeOf m) 2 t))
       (chosen-lease (eqb (typeOf m) 2) (eqb (typeOf m) 6) _ _)
 
-  plan-lease : Accepted tables sent → typeOf m ≡ 2 → plan tables sent ≡ planLease tables now c lease-decision
-  unfolding plan
+  plan-lease : Accepted tables sent → typeOf m ≡ 2 → planCall tables sent ≡ planLease tables now c lease-decision
+  unfolding planCall
   plan-lease e t = lease-plan tables now c m random (from-peer tables now c m random reply relay (done-passed tables sent e)) t
 
   -- byte 1 of the reply, by what was decided
@@ -155,7 +155,7 @@ module _ (tables : Tables) (now c : ℕ) (m random reply relay : List ℕ) where
     told = λ h. rw (reply-byte tables sent (lease-exactly d .0 h .0) 1 (rw (acted h) (told-lease d .0)), acted h) (told-lease d .1);
   }
     where
-      acted : explain tables sent .decided ≡ ofLease d → plan tables sent ≡ planLease tables now c d
+      acted : explain tables sent .decided ≡ ofLease d → planCall tables sent ≡ planLease tables now c d
       acted h = let is = lease-exactly d .0 h in plan-lease (is .0) (is .1 .0) ∙ rw (is .1 .1)
 
   -- ---- a session
@@ -172,8 +172,8 @@ module _ (tables : Tables) (now c : ℕ) (m random reply relay : List ℕ) where
       (λ t. rw (ne-eqb (typeOf m) 2 (λ e. omega arith), eq-eqb (typeOf m) 6 t))
       (chosen-establish (eqb (typeOf m) 2) (eqb (typeOf m) 6) _ _)
 
-  plan-establish : Accepted tables sent → typeOf m ≡ 6 → plan tables sent ≡ planEstablish tables c id random (decideEstablish cs ls now c id)
-  unfolding plan planMessage
+  plan-establish : Accepted tables sent → typeOf m ≡ 6 → planCall tables sent ≡ planEstablish tables c id random (decideEstablish cs ls now c id)
+  unfolding planCall planMessage
   plan-establish e t = rw (by-type m (from-peer tables now c m random reply relay (done-passed tables sent e)) .six t)
 
   -- byte 5 of the reply is the status
@@ -191,7 +191,7 @@ module _ (tables : Tables) (now c : ℕ) (m random reply relay : List ℕ) where
     told = λ h. rw (reply-byte tables sent (establish-exactly d .0 h .0) 5 (rw (acted h) (told-status d .0)), acted h) (told-status d .1);
   }
     where
-      acted : explain tables sent .decided ≡ ofEstablish d → plan tables sent ≡ planEstablish tables c id random d
+      acted : explain tables sent .decided ≡ ofEstablish d → planCall tables sent ≡ planEstablish tables c id random d
       acted h = let is = establish-exactly d .0 h in plan-establish (is .0) (is .1 .0) ∙ rw (is .1 .1)
 
 -- Nothing is named of any other call, and of one that a check stops.
@@ -202,6 +202,7 @@ asking tables (message now c m random reply relay) q h =
     let no = chosen-none (eqb (typeOf m) 2) (eqb (typeOf m) 6) _ _ h in
     ⊎-elim (λ t. false≢true (sym (no .0) ∙ eq-eqb (typeOf m) 2 t)) (λ t. false≢true (sym (no .1) ∙ eq-eqb (typeOf m) 6 t)) q
 asking tables (closing now c relay) q h = q
+asking tables (keepalive now c reply relay) q h = q
 
 not-asking : (tables : Tables) (call : Call) → (AsksDecision call → ⊥) → asked tables call ≡ undecided
 unfolding asked
@@ -209,6 +210,7 @@ not-asking tables (opening now c reply) n = refl
 not-asking tables (message now c m random reply relay) n =
     rw (ne-eqb (typeOf m) 2 (λ t. n (inl t)), ne-eqb (typeOf m) 6 (λ t. n (inr t)))
 not-asking tables (closing now c relay) n = refl
+not-asking tables (keepalive now c reply relay) n = refl
 
 pub nothing-named : (tables : Tables) (call : Call)
     → (explain tables call .decided ≡ undecided) ↔ ((Accepted tables call × AsksDecision call) → ⊥)
@@ -228,6 +230,7 @@ lengths-only tables now c m random = record {
   open-alike = λ reply other e. rw e;
   message-alike = λ reply relay otherReply otherRelay e f. rw (e, f);
   close-alike = λ relay other e. rw e;
+  keepalive-alike = λ reply relay otherReply otherRelay e f. rw (e, f);
 }
 
 -- ---- the headroom

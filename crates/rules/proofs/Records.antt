@@ -9,7 +9,7 @@ use native.Mathlib.Decide.{decLt, decLe}
 use lib.ListN.{length, take, drop, length-take}
 use lib.Seq.{take-take, drop-drop, getD-take, getD-drop, getD-set-same}
 use Rattle.octets.specs.Octets.{byteAt, number, part, numberAt, put}
-use Rattle.octets.proofs.Stores.{put-one, part-before, part-behind}
+use Rattle.octets.proofs.Stores.{put-one, length-put, part-before, part-behind}
 
 pub length-part-most : (xs : List ℕ) (at n : ℕ) → length (part xs at n) ≤ n
 unfolding part
@@ -68,22 +68,26 @@ byte-put xs at v h = rw (put-one xs at v) (getD-set-same xs at v 0 h)
 
 -- ---- records of one size, of which some are others'
 
--- the records of which `Other` holds are as they were
+-- the records of which `Other` holds are as they were, in a table as long as it was
 pub record Kept (size : ℕ) (Other : ℕ → Type 0) (xs ys : List ℕ) : Type 0 where
+  pub long : length ys ≡ length xs
   pub at : (k : ℕ) → Other k → part ys (size * k) size ≡ part xs (size * k) size
 
 module _ {size : ℕ} {Other : ℕ → Type 0} where
   pub kept-same : (xs : List ℕ) → Kept size Other xs xs
-  kept-same xs = record { at = λ k o. refl }
+  kept-same xs = record { long = refl; at = λ k o. refl }
 
   pub kept-trans : {xs ys zs : List ℕ} → Kept size Other xs ys → Kept size Other ys zs → Kept size Other xs zs
-  kept-trans f g = record { at = λ k o. g .at k o ∙ f .at k o }
+  kept-trans f g = record { long = g .long ∙ f .long; at = λ k o. g .at k o ∙ f .at k o }
 
   -- a store inside one record
   pub kept-put : (xs : List ℕ) (q at : ℕ) (vs : List ℕ) → (Other q → ⊥) → size * q ≤ at → at + length vs ≤ size * q + size
       → Kept size Other xs (put xs at vs)
   kept-put xs q at vs n low high =
-      record { at = λ k o. part-beside xs at vs (size * k) size (λ l. apart k (λ e. n (subst Other e o)) l (decLt q k)) }
+      record {
+        long = length-put xs at vs;
+        at = λ k o. part-beside xs at vs (size * k) size (λ l. apart k (λ e. n (subst Other e o)) l (decLt q k));
+      }
     where
       apart : (k : ℕ) → k ≢ q → at < size * k + size → Dec (q < k) → at + length vs ≤ size * k
       apart k d l (yes m) = omega (arith, mul-le-mul-left {m = suc q} {n = k} size m, mul-suc size q)

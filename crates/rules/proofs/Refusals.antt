@@ -15,7 +15,7 @@ use Rattle.octets.proofs.Tests.{by-test}
 use Rattle.svsc.specs.Messages.{Message, sentByPeers, typeOf, isSome, decode, fromPeer, typesIn}
 use Rattle.rules.specs.Sizes.{connectionCount, connectionsSize, leasesSize, allowancesSize, timeLimit, randomBytes, leastBuffer}
 use Rattle.rules.specs.Tables.{Tables, closed, state, inSession, hasSession, clock, sized}
-use Rattle.rules.specs.Calls.{Call, opening, message, closing, timeOf, connectionOf, Answer}
+use Rattle.rules.specs.Calls.{Call, opening, message, closing, keepalive, timeOf, connectionOf, Answer}
 use Rattle.rules.specs.Charges.{cost, price, callerLevel}
 use Rattle.rules.specs.Checks.{wrongTime, wrongState, wrongLengths, notFromPeer, permitted, permits, notPermitted, noSession, aboveLevel, firstEight, checks, firstApplying, check, checkStart}
 use Rattle.rules.specs.Step.{step, start, started}
@@ -96,6 +96,7 @@ module _ (tables : Tables) where
   state-exactly (opening now c reply) = not-exactly _ (eq-exactly (state cs c) closed)
   state-exactly (message now c m random reply relay) = eq-exactly (state cs c) closed
   state-exactly (closing now c relay) = eq-exactly (state cs c) closed
+  state-exactly (keepalive now c reply relay) = eq-exactly (state cs c) closed
 
   lengths-exactly : (call : Call) → (wrongLengths call ≡ true) ↔ OfWrongLengths call
   unfolding wrongLengths
@@ -105,12 +106,15 @@ module _ (tables : Tables) where
       (or-exactly _ _ (not-exactly _ (eq-exactly (length random) randomBytes)) (lt-exactly (length reply) leastBuffer))
       (lt-exactly (length relay) (max leastBuffer (length m)))
   lengths-exactly (closing now c relay) = lt-exactly (length relay) leastBuffer
+  lengths-exactly (keepalive now c reply relay) =
+      or-exactly _ _ (lt-exactly (length reply) leastBuffer) (lt-exactly (length relay) leastBuffer)
 
   peer-exactly : (call : Call) → (notFromPeer call ≡ true) ↔ NotSentByPeer call
   unfolding notFromPeer
   peer-exactly (opening now c reply) = never
   peer-exactly (message now c m random reply relay) = not-exactly _ (read-exactly m)
   peer-exactly (closing now c relay) = never
+  peer-exactly (keepalive now c reply relay) = never
 
   permitted-exactly : (call : Call) → (notPermitted cs call ≡ true) ↔ NotPermittedHere cs call
   unfolding notPermitted
@@ -118,6 +122,7 @@ module _ (tables : Tables) where
   permitted-exactly (message now c m random reply relay) =
       rw (permitted-types (state cs c) (typeOf m)) (false-exactly (isOneOf (typeOf m) (permittedTypes (state cs c))))
   permitted-exactly (closing now c relay) = never
+  permitted-exactly (keepalive now c reply relay) = never
 
   without-exactly : (call : Call) → (noSession cs call ≡ true) ↔ WithoutSession cs call
   unfolding noSession
@@ -125,6 +130,7 @@ module _ (tables : Tables) where
   without-exactly (message now c m random reply relay) =
       and-exactly _ _ (or-exactly _ _ (eq-exactly (typeOf m) 9) (eq-exactly (typeOf m) 11)) (without-session cs c)
   without-exactly (closing now c relay) = never
+  without-exactly (keepalive now c reply relay) = never
 
   pub each-exactly : (call : Call) → EachExactly tables call
   unfolding checks firstEight wrongTime aboveLevel callerLevel price

@@ -14,13 +14,13 @@ use Rattle.rules.specs.Searches.{endRow}
 use Rattle.rules.specs.Tables.{Tables, partnerOf, hasSession, cookieAt, cookieOf}
 use Rattle.rules.specs.Leases.{decideLease, rowToExtend}
 use Rattle.rules.specs.Sessions.{EstablishDecision, refusedWith, establishedWith, decideEstablish}
-use Rattle.rules.specs.Calls.{Call, opening, message, closing, timeOf, connectionOf, replyBuffer, relayBuffer}
-use Rattle.rules.specs.Plans.{Plan, replyOnly, refuseLease, planOpen, planVersionAnswer, planLease, planExtension, planEstablish, planEnd, planData, planClose, plan}
+use Rattle.rules.specs.Calls.{Call, opening, message, closing, keepalive, timeOf, connectionOf, replyBuffer, relayBuffer}
+use Rattle.rules.specs.Plans.{Plan, replyOnly, refuseLease, planOpen, planVersionAnswer, planLease, planExtension, planEstablish, planEnd, planData, planClose, disconnecting, planCall, plan}
 use Rattle.rules.specs.Charges.{received}
 use Rattle.rules.specs.Checks.{precheck}
 use Rattle.rules.specs.Step.{step, done}
 use Rattle.rules.proofs.Records.{length-part-most}
-use Rattle.rules.proofs.Checks.{open-room, close-room, reply-room, relay-room}
+use Rattle.rules.proofs.Checks.{open-room, close-room, keepalive-room, reply-room, relay-room}
 use Rattle.rules.proofs.Answers.{is-done, done-passed}
 use Rattle.rules.proofs.Connections.{keys-most}
 use Rattle.rules.proofs.Decisions.{is-granted}
@@ -79,6 +79,9 @@ module _ (tables : Tables) (now c n : ℕ) where
     relay-fits = omega (arith, keys-most random 48 64);
   }
 
+  dead-fits : Fits n (planClose tables c) → Fits n (disconnecting (planClose tables c))
+  dead-fits x = record { reply-fits = x .reply-fits; relay-fits = x .relay-fits }
+
   close-fits : Fits n (planClose tables c)
   unfolding planClose planEnd encode
   close-fits =
@@ -96,26 +99,34 @@ module _ (tables : Tables) (now c n : ℕ) where
     data-plan = λ h bytes l. record { reply-fits = lit≤ tt; relay-fits = omega arith };
     no-plan = small (lit≤ tt) (lit≤ tt);
     close-plan = close-fits;
+    dead-plan = λ t. dead-fits close-fits;
+    ask-plan = small (lit≤ tt) (lit≤ tt);
   }
 
 -- Each buffer has room for its message, so that it starts with the whole of it.
 pub messages-fit : (tables : Tables) (call : Call) → step tables call .answer .number ≡ 0
     → (step tables call .answer .replyLength ≤ length (replyBuffer call))
     × (step tables call .answer .relayLength ≤ length (relayBuffer call))
+unfolding plan
 messages-fit tables call e =
     let h = done-passed tables call e in
     rw (is-done tables call e) (unfold done in room call h (fits call h))
   where
+    -- what is written of the messages sent changes none of them
     fits : (call : Call) → precheck tables call ≡ 0 → Fits (received call) (plan tables call)
     fits call h =
         let each = each-fits tables (timeOf call) (connectionOf call) (received call) (kindOf call) in
-        every-plan (Fits (received call)) tables call h each
+        let x = every-plan (Fits (received call)) tables call h each in
+        record { reply-fits = x .reply-fits; relay-fits = x .relay-fits }
 
     room : (call : Call) → precheck tables call ≡ 0 → Fits (received call) (plan tables call)
         → (length (plan tables call .reply) ≤ length (replyBuffer call)) × (length (plan tables call .relay) ≤ length (relayBuffer call))
-    room (opening now c reply) h x = (omega (arith, x .reply-fits, open-room tables now c reply h), unfold plan planOpen in lit≤ tt)
+    room (opening now c reply) h x = (omega (arith, x .reply-fits, open-room tables now c reply h), unfold planCall planOpen in lit≤ tt)
     room (message now c m random reply relay) h x =
         let reply-is = reply-room tables now c m random reply relay h in
         let relay-is = relay-room tables now c m random reply relay h in
         (omega (arith, x .reply-fits), omega (arith, x .relay-fits))
-    room (closing now c relay) h x = (unfold plan planClose in lit≤ tt, omega (arith, x .relay-fits, close-room tables now c relay h))
+    room (closing now c relay) h x = (unfold planCall planClose in lit≤ tt, omega (arith, x .relay-fits, close-room tables now c relay h))
+    room (keepalive now c reply relay) h x =
+        let both = keepalive-room tables now c reply relay h in
+        (omega (arith, x .reply-fits, both .0), omega (arith, x .relay-fits, both .1))

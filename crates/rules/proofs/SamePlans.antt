@@ -14,8 +14,9 @@ use Rattle.rules.specs.Searches.{firstRow, endRow}
 use Rattle.rules.specs.Tables.{Tables, partnerOf, ownerOf, connectionAt, keysAt, bucketOf, clock, sized, hasSession}
 use Rattle.rules.specs.Leases.{LeaseDecision, holdsLease, noSpareRow, cookieInUse, noFreeId, renewed, granted, firstFree, idTaken, idElsewhere, decideLease, leaseEnd, grant, renew, rowToExtend, release}
 use Rattle.rules.specs.Sessions.{EstablishDecision, refusedWith, establishedWith, decideEstablish, clear, await, join, leave, endSession, establish}
-use Rattle.rules.specs.Calls.{Call, opening, message, closing, timeOf, callerOf}
-use Rattle.rules.specs.Plans.{Plan, doNothing, planOpen, planVersionAnswer, planLease, planExtension, planEstablish, planEnd, planData, planClose, planMessage, plan}
+use Rattle.rules.specs.Calls.{Call, opening, message, closing, keepalive, timeOf, connectionOf, callerOf}
+use Rattle.rules.specs.Plans.{Plan, doNothing, planOpen, planVersionAnswer, planLease, planExtension, planEstablish, planEnd, planData, planClose, planMessage, planKeepalive, planCall, answeredBy, heard, stamped, plan}
+use Rattle.rules.specs.Keepalives.{isDead, isDue, ask, answered, stamp}
 use Rattle.rules.specs.Charges.{price, callerLevel}
 use Rattle.rules.specs.Checks.{wrongTime, wrongState, notPermitted, noSession, aboveLevel, firstEight, checks, firstApplying, check}
 use Rattle.rules.specs.Step.{done}
@@ -23,7 +24,7 @@ use Rattle.rules.specs.Bytes.{SameAt}
 use Rattle.rules.specs.Reading.{SameSizes, SameTold}
 use Rattle.rules.proofs.Same.{same-put}
 use Rattle.rules.proofs.Decisions.{is-renewed}
-use Rattle.rules.proofs.Reading.{by-both, InLeases, state-same, peer-same, has-session-same, id-same, cookie-same, row-to-extend-same, lease-same, first-free-same, establish-same, release-same}
+use Rattle.rules.proofs.Reading.{by-both, InLeases, state-same, peer-same, has-session-same, dead-same, due-same, id-same, cookie-same, row-to-extend-same, lease-same, first-free-same, establish-same, release-same}
 
 -- ---- plans
 
@@ -137,6 +138,24 @@ module _
               (λ i l u. subst Q (let e : partnerOf c ≡ ownerOf i = omega arith in e) mine) ls ms t;
         }
 
+    keepalive-alike : Agree (planKeepalive a now c) (planKeepalive b now c)
+    unfolding planKeepalive ask
+    keepalive-alike =
+        let closed = close-alike in
+        by-both Agree (isDead cs now c) _ (dead-same Q P heads cs ds s now c mine)
+        (λ e. record {
+          reply = closed .reply;
+          relay = closed .relay;
+          destination = closed .destination;
+          disconnect = refl;
+          connections = closed .connections;
+          leases = closed .leases;
+        })
+        (λ e.
+        by-both Agree (isDue cs now c) _ (due-same Q P heads cs ds s now c mine)
+        (λ u. tables-alike (same-put (same-put s _ _) _ _) t)
+        (λ u. nothing-alike))
+
     message-alike : (random : List ℕ) → firstFree ls now random ≡ firstFree ms now random → (o : Option Message)
         → Agree (planMessage a now c random o) (planMessage b now c random o)
     unfolding planMessage
@@ -160,6 +179,33 @@ module _
     message-alike random e (some (DataReceive bytes)) = nothing-alike
     message-alike random e none = nothing-alike
 
+-- plans that agree do so with what is written of the messages that were sent and heard
+stamp-alike : {P : ℕ → Type 0} {cs ds : List ℕ} (now n c : ℕ) → SameAt P cs ds → SameAt P (stamp cs now n c) (stamp ds now n c)
+unfolding stamp
+stamp-alike {P} now n c s = by-both (SameAt P) (eqb n 0) _ refl (λ e. s) (λ e. same-put s _ _)
+
+answered-alike : {P : ℕ → Type 0} {cs ds : List ℕ} (call : Call) → SameAt P cs ds → SameAt P (answeredBy call cs) (answeredBy call ds)
+unfolding answered
+answered-alike (opening now c reply) s = s
+answered-alike (message now c m random reply relay) s = same-put s _ _
+answered-alike (closing now c relay) s = s
+answered-alike (keepalive now c reply relay) s = s
+
+marked-alike : {Q P : ℕ → Type 0} (call : Call) {x y : Plan} → SamePlan Q P x y
+    → SamePlan Q P
+    (stamped (timeOf call) (connectionOf call) (heard call x))
+    (stamped (timeOf call) (connectionOf call) (heard call y))
+marked-alike call e = record {
+  reply = e .reply;
+  relay = e .relay;
+  destination = e .destination;
+  disconnect = e .disconnect;
+  connections =
+      rw (e .reply, e .relay, e .destination)
+      (stamp-alike (timeOf call) _ _ (stamp-alike (timeOf call) _ _ (answered-alike call (e .connections))));
+  leases = e .leases;
+}
+
 -- plans that send the same tell the same
 pub sends-same : {Q P : ℕ → Type 0} (a b : Tables) (call : Call) {x y : Plan} → SamePlan Q P x y → SameTold (done a call x) (done b call y)
 unfolding done
@@ -180,18 +226,21 @@ module _
     wrong-state-same (opening now c reply) h = rw (state-same Q P heads cs ds s c h)
     wrong-state-same (message now c m random reply relay) h = rw (state-same Q P heads cs ds s c h)
     wrong-state-same (closing now c relay) h = rw (state-same Q P heads cs ds s c h)
+    wrong-state-same (keepalive now c reply relay) h = rw (state-same Q P heads cs ds s c h)
 
     not-permitted-same : (call : Call) → Q (callerOf call) → notPermitted cs call ≡ notPermitted ds call
     unfolding notPermitted
     not-permitted-same (opening now c reply) h = refl
     not-permitted-same (message now c m random reply relay) h = rw (state-same Q P heads cs ds s c h)
     not-permitted-same (closing now c relay) h = refl
+    not-permitted-same (keepalive now c reply relay) h = refl
 
     no-session-same : (call : Call) → Q (callerOf call) → noSession cs call ≡ noSession ds call
     unfolding noSession
     no-session-same (opening now c reply) h = refl
     no-session-same (message now c m random reply relay) h = rw (has-session-same Q P heads cs ds s c h)
     no-session-same (closing now c relay) h = refl
+    no-session-same (keepalive now c reply relay) h = refl
 
 -- ---- a call
 
@@ -239,8 +288,8 @@ module _ {Q P : ℕ → Type 0} {a b : Tables} {call : Call} (x : Alike Q P a b 
   unfolding check
   check-same = ap (firstApplying 1) checks-same
 
-  plan-of : (k : Call) → Q (callerOf k) → timeOf k ≡ timeOf call → SamePlan Q P (plan a k) (plan b k)
-  unfolding plan
+  plan-of : (k : Call) → Q (callerOf k) → timeOf k ≡ timeOf call → SamePlan Q P (planCall a k) (planCall b k)
+  unfolding planCall
   plan-of (opening now c reply) q t =
       open-alike Q P (x .heads) a b now c q (x .connections) (x .leases) (end-same now) (rw t (x .elsewhere))
   plan-of (message now c m random reply relay) q t =
@@ -249,6 +298,9 @@ module _ {Q P : ℕ → Type 0} {a b : Tables} {call : Call} (x : Alike Q P a b 
       (decode m)
   plan-of (closing now c relay) q t =
       close-alike Q P (x .heads) a b now c q (x .connections) (x .leases) (end-same now) (rw t (x .elsewhere))
+  plan-of (keepalive now c reply relay) q t =
+      keepalive-alike Q P (x .heads) a b now c q (x .connections) (x .leases) (end-same now) (rw t (x .elsewhere))
 
   pub plan-same : SamePlan Q P (plan a call) (plan b call)
-  plan-same = plan-of call (x .mine) refl
+  unfolding plan
+  plan-same = marked-alike call (plan-of call (x .mine) refl)

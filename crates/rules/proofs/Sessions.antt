@@ -178,4 +178,6 @@ module _ (tables : Tables) (now c : ℕ) (size : length (tables .connections) �
     data-plan = λ h bytes l. data-relays h bytes;
     no-plan = silent _ _ _ _;
     close-plan = close-relays;
+    dead-plan = λ t. record { empty = close-relays .empty; to-paired = close-relays .to-paired };
+    ask-plan = silent _ _ _ _;
   }

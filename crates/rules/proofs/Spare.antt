@@ -1,6 +1,7 @@
--- Bytes 2-15 of a connection record and 13-15 of a lease row: zero in fresh tables, and still zero after every call. Assumes nothing.
+-- Bytes 3, 14 and 15 of a connection record and 13-15 of a lease row: zero in fresh tables, and still zero after every call. Assumes nothing.
 use Prim.Native.Nat.{ℕ, zero, suc, _+_, _/_, _%_, _≤_, _<_}
 use mathlib.Core.Path.{_≡_, refl, _∙_}
+use mathlib.Core.Logic.{_⊎_, inl, inr, ⊎-elim}
 use mathlib.Core.Bool.{Bool, false}
 use mathlib.Core.List.{List, [], _∷_}
 use native.Mathlib.Omega.{arith}
@@ -14,17 +15,18 @@ use Rattle.octets.proofs.Parts.{byte-past}
 use Rattle.octets.proofs.Numbers.{length-bigEndian}
 use Rattle.svsc.specs.Messages.{cookieBytes}
 use Rattle.allowance.specs.Meter as meter
-use Rattle.rules.specs.Sizes.{rowsPerPartner, connectionCount, rowCount, connectionBytes, leaseBytes, nobody}
+use Rattle.rules.specs.Sizes.{rowsPerPartner, connectionCount, rowCount, connectionBytes, leaseBytes, timeBytes, nobody}
 use Rattle.rules.specs.Searches.{firstRow, endRow}
-use Rattle.rules.specs.Tables.{Tables, partnerOf, connectionAt, peerAt, keysAt, keysBytes, awaiting, opened, peer, hasSession, setState, setPeer, leaseAt, idAt, holderAt, cookieAt, setExpiry, setId, setHolder, freshConnection, fresh}
+use Rattle.rules.specs.Tables.{Tables, partnerOf, connectionAt, peerAt, keysAt, keysBytes, awaiting, opened, peer, hasSession, setState, setPeer, setUnanswered, leaseAt, idAt, holderAt, cookieAt, setExpiry, setId, setHolder, freshConnection, fresh}
 use Rattle.rules.specs.Leases.{decideLease, leaseEnd, grant, renew, rowToExtend, releaseFrom, release}
 use Rattle.rules.specs.Sessions.{EstablishDecision, refusedWith, establishedWith, decideEstablish, clear, await, join, leave, endSession, establish}
+use Rattle.rules.specs.Keepalives.{ask, answered, stamp}
 use Rattle.rules.specs.Calls.{Call, timeOf, connectionOf}
 use Rattle.rules.specs.Charges.{received}
-use Rattle.rules.specs.Plans.{Plan, planOpen, planVersionAnswer, planLease, planExtension, planEstablish, planEnd, planData, planClose}
+use Rattle.rules.specs.Plans.{Plan, planOpen, planVersionAnswer, planLease, planExtension, planEstablish, planEnd, planData, planClose, planCall, answeredBy, plan}
 use Rattle.rules.specs.Step.{step, done}
 use Rattle.rules.specs.Runs.{after}
-use Rattle.rules.specs.Laws.{SpareZero}
+use Rattle.rules.specs.Laws.{IsSpare, SpareZero}
 use Rattle.rules.proofs.Records.{length-part-most}
 use Rattle.rules.proofs.Connections.{keys-most}
 use Rattle.rules.proofs.Rows.{by-holder}
@@ -32,6 +34,7 @@ use Rattle.rules.proofs.Fresh.{zeros, fresh-connection, fresh-row, fres
 use Rattle.rules.proofs.Answers.{refused-leaves-all, is-done, done-passed}
 use Rattle.rules.proofs.Decisions.{is-granted}
 use Rattle.rules.proofs.Plans.{Each, kindOf, every-plan, by-lease, by-test}
+use Rattle.rules.proofs.Marks.{by-caller}
 
 -- a byte that is zero stays so where a store puts zero there, or stores elsewhere
 zero-put : (xs : List ℕ) (at : ℕ) (vs : List ℕ) (i : ℕ) → byteAt xs i ≡ 0 → ((j : ℕ) → at + j ≡ i → byteAt vs j ≡ 0)
@@ -60,9 +63,15 @@ short-put xs at n vs i long z apart = zero-put xs at vs i z (λ j e. byte-past v
 
 -- ---- the writings
 
-module _ (i : ℕ) (low : 2 ≤ i % connectionBytes) (high : i % connectionBytes < 16) where
+module _ (i : ℕ) (spare : IsSpare (i % connectionBytes)) where
+  low : 2 ≤ i % connectionBytes
+  low = ⊎-elim (λ e. omega arith) (λ r. omega (arith, r .0)) spare
+
+  high : i % connectionBytes < 16
+  high = ⊎-elim (λ e. omega arith) (λ r. omega (arith, r .1)) spare
+
   state-zero : (cs : List ℕ) (c s : ℕ) → byteAt cs i ≡ 0 → byteAt (setState cs c s) i ≡ 0
-  state-zero cs c s z = short-put cs (connectionAt c) 1 (s ∷ []) i (omega arith) z (λ l u. omega arith)
+  state-zero cs c s z = short-put cs (connectionAt c) 1 (s ∷ []) i (omega arith) z (λ l u. omega (arith, low))
 
   clear-zero : (cs : List ℕ) (c : ℕ) → byteAt cs i ≡ 0 → byteAt (clear cs c) i ≡ 0
   unfolding clear
@@ -70,20 +79,47 @@ module _ (i : ℕ) (low : 2 ≤ i % connectionBytes) (high : i % connectionBytes
     where
       go : (j : ℕ) → connectionAt c + j ≡ i → byteAt freshConnection j ≡ 0
       go zero e = refl
-      go (suc zero) e = absurd (omega arith)
+      go (suc zero) e = absurd (omega (arith, low))
       go (suc (suc j)) e = zeros 62 j
 
   join-zero : (cs : List ℕ) (c other : ℕ) (keys : List ℕ) → length keys ≤ keysBytes → byteAt cs i ≡ 0 → byteAt (join cs c other keys) i ≡ 0
   unfolding join
   join-zero cs c other keys h z =
       short-put (setPeer cs c other) (keysAt c) keysBytes keys i h
-      (short-put cs (peerAt c) 1 (other ∷ []) i (omega arith) z (λ l u. omega arith))
-      (λ l u. omega arith)
+      (short-put cs (peerAt c) 1 (other ∷ []) i (omega arith) z (λ l u. omega (arith, low)))
+      (λ l u. omega (arith, high))
 
   end-zero : (cs : List ℕ) (c d : ℕ) → byteAt cs i ≡ 0 → byteAt (endSession cs c d) i ≡ 0
   unfolding endSession leave
   end-zero cs c d z =
       join-zero (leave cs c) d nobody (replicate keysBytes 0) (lit≤ tt) (join-zero cs c nobody (replicate keysBytes 0) (lit≤ tt) z)
+
+  -- a writing to bytes 2 to 13 but 3
+  mark-zero : (cs : List ℕ) (c at n : ℕ) (vs : List ℕ) → length vs ≡ n → ((at ≡ 2) × (n ≡ 1)) ⊎ ((4 ≤ at) × (at + n ≤ 14)) → byteAt cs i ≡ 0
+      → byteAt (put cs (connectionAt c + at) vs) i ≡ 0
+  mark-zero cs c at n vs long which z =
+      short-put cs (connectionAt c + at) n vs i (omega arith) z
+      (λ l u.
+      ⊎-elim
+      (λ a. ⊎-elim (λ e. omega (arith, a .0, a .1)) (λ r. omega (arith, a .0, a .1, r .0)) spare)
+      (λ b. ⊎-elim (λ e. omega (arith, b .0, b .1)) (λ r. omega (arith, b .0, b .1, r .0)) spare)
+      which)
+
+  answered-zero : (cs : List ℕ) (c : ℕ) → byteAt cs i ≡ 0 → byteAt (answered cs c) i ≡ 0
+  unfolding answered
+  answered-zero cs c z = mark-zero cs c 2 1 (0 ∷ []) refl (inl (refl, refl)) z
+
+  ask-zero : (cs : List ℕ) (now c : ℕ) → byteAt cs i ≡ 0 → byteAt (ask cs now c) i ≡ 0
+  unfolding ask
+  ask-zero cs now c z =
+      mark-zero (setUnanswered cs c 1) c 9 timeBytes (bigEndian timeBytes now) (length-bigEndian timeBytes now) (inr (lit≤ tt, lit≤ tt))
+      (mark-zero cs c 2 1 (1 ∷ []) refl (inl (refl, refl)) z)
+
+  stamp-zero : (cs : List ℕ) (now n c : ℕ) → byteAt cs i ≡ 0 → byteAt (stamp cs now n c) i ≡ 0
+  unfolding stamp
+  stamp-zero cs now n c z =
+      by-test (λ (l : List ℕ). byteAt l i ≡ 0) (eqb n 0) (λ e. z)
+      (λ e. mark-zero cs c 4 timeBytes (bigEndian timeBytes now) (length-bigEndian timeBytes now) (inr (lit≤ tt, lit≤ tt)) z)
 
 module _ (i : ℕ) (low : 13 ≤ i % leaseBytes) (high : i % leaseBytes < 16) where
   expiry-zero : (ls : List ℕ) (r until : ℕ) → byteAt ls i ≡ 0 → byteAt (setExpiry ls r until) i ≡ 0
@@ -116,13 +152,13 @@ module _ (tables : Tables) (now c : ℕ) (zs : SpareZero tables) where
   open Tables tables using (connections as cs, leases as ls, allowances as al)
 
   record Zero (x : Plan) : Type 0 where
-    connections : (i : ℕ) → 2 ≤ i % connectionBytes → i % connectionBytes < 16 → byteAt (x .connections) i ≡ 0
+    connections : (i : ℕ) → IsSpare (i % connectionBytes) → byteAt (x .connections) i ≡ 0
     leases : (i : ℕ) → 13 ≤ i % leaseBytes → i % leaseBytes < 16 → byteAt (x .leases) i ≡ 0
 
   open-zero : Zero (planOpen tables c)
   unfolding planOpen await
   open-zero = record {
-    connections = λ i l u. state-zero i l u _ c awaiting (clear-zero i l u cs c (zs .connections i l u));
+    connections = λ i z. state-zero i z _ c awaiting (clear-zero i z cs c (zs .connections i z));
     leases = zs .leases;
   }
 
@@ -130,8 +166,8 @@ module _ (tables : Tables) (now c : ℕ) (zs : SpareZero tables) where
   unfolding planVersionAnswer
   answer-zero ok =
       by-test Zero (eqb ok 1)
-      (λ h. record { connections = λ i l u. state-zero i l u cs c opened (zs .connections i l u); leases = zs .leases })
-      (λ h. record { connections = λ i l u. clear-zero i l u cs c (zs .connections i l u); leases = zs .leases })
+      (λ h. record { connections = λ i z. state-zero i z cs c opened (zs .connections i z); leases = zs .leases })
+      (λ h. record { connections = λ i z. clear-zero i z cs c (zs .connections i z); leases = zs .leases })
 
   stay-zero : (reply relay : List ℕ) (d : ℕ) (u : Bool)
       → Zero (record { reply = reply; relay = relay; destination = d; disconnect = u; connections = cs; leases = ls })
@@ -164,21 +200,21 @@ module _ (tables : Tables) (now c : ℕ) (zs : SpareZero tables) where
   unfolding planEstablish establish
   establish-zero id random (refusedWith status) = stay-zero _ _ _ _
   establish-zero id random (establishedWith h) = record {
-    connections = λ i l u.
-        join-zero i l u _ h c _ (keys-most random _ _) (join-zero i l u cs c h _ (keys-most random _ _) (zs .connections i l u));
+    connections = λ i z.
+        join-zero i z _ h c _ (keys-most random _ _) (join-zero i z cs c h _ (keys-most random _ _) (zs .connections i z));
     leases = zs .leases;
   }
 
   end-plan-zero : Zero (planEnd tables c)
   unfolding planEnd
-  end-plan-zero = record { connections = λ i l u. end-zero i l u cs c (peer cs c) (zs .connections i l u); leases = zs .leases }
+  end-plan-zero = record { connections = λ i z. end-zero i z cs c (peer cs c) (zs .connections i z); leases = zs .leases }
 
   close-zero : Zero (planClose tables c)
   unfolding planClose release
   close-zero =
       let ended = by-test Zero (hasSession cs c) (λ h. end-plan-zero) (λ h. stay-zero [] [] nobody false) in
       record {
-        connections = λ i l u. clear-zero i l u _ c (ended .connections i l u);
+        connections = λ i z. clear-zero i z _ c (ended .connections i z);
         leases = λ i l u. release-zero i l u rowsPerPartner ls c (firstRow (partnerOf c)) (zs .leases i l u);
       }
 
@@ -194,18 +230,30 @@ module _ (tables : Tables) (now c : ℕ) (zs : SpareZero tables) where
     data-plan = λ h bytes l. stay-zero _ _ _ _;
     no-plan = stay-zero _ _ _ _;
     close-plan = close-zero;
+    dead-plan = λ t. record { connections = close-zero .connections; leases = close-zero .leases };
+    ask-plan = record { connections = λ i z. ask-zero i z cs now c (zs .connections i z); leases = zs .leases };
   }
 
 -- ---- calls, and runs
 
 pub spare-stays : (tables : Tables) (call : Call) → SpareZero tables → SpareZero (step tables call .tables)
-unfolding done
+unfolding done plan
 spare-stays tables call zs = go (ℕ-discrete (step tables call .answer .number) 0)
   where
+    heard : (i : ℕ) → IsSpare (i % connectionBytes) → Zero tables (timeOf call) (connectionOf call) zs (planCall tables call)
+        → byteAt (answeredBy call (planCall tables call .connections)) i ≡ 0
+    heard i z x =
+        by-caller (λ (l : List ℕ). byteAt l i ≡ 0) call (planCall tables call .connections) (x .connections i z)
+        (answered-zero i z _ _ (x .connections i z))
+
     go : Dec (step tables call .answer .number ≡ 0) → SpareZero (step tables call .tables)
     go (yes e) =
         let x = every-plan _ tables call (done-passed tables call e) (each-zero tables (timeOf call) (connectionOf call) zs (received call) (kindOf call)) in
-        rw (is-done tables call e) (record { connections = x .connections; leases = x .leases })
+        rw (is-done tables call e)
+        (record {
+          connections = λ i z. stamp-zero i z _ _ _ _ (stamp-zero i z _ _ _ _ (heard i z x));
+          leases = x .leases;
+        })
     go (no n) = rw (refused-leaves-all tables call n) zs
 
 pub run-spare : (calls : List Call) (tables : Tables) → SpareZero tables → SpareZero (after tables calls)
@@ -216,16 +264,17 @@ run-spare (call ∷ calls) tables zs = run-spare calls (step tables call .tables
 -- ---- fresh tables
 
 pub fresh-spare : (now : ℕ) → SpareZero (fresh now)
-fresh-spare now = record { connections = λ i l u. own i l u (decLt (i / connectionBytes) connectionCount); leases = λ i l u. row i l u (decLt (i / leaseBytes) rowCount) }
+fresh-spare now = record { connections = λ i z. own i z (decLt (i / connectionBytes) connectionCount); leases = λ i l u. row i l u (decLt (i / leaseBytes) rowCount) }
   where
-    own : (i : ℕ) → 2 ≤ i % connectionBytes → i % connectionBytes < 16 → Dec (i / connectionBytes < connectionCount)
-        → byteAt (fresh now .connections) i ≡ 0
-    own i l u (yes h) =
+    own : (i : ℕ) → IsSpare (i % connectionBytes) → Dec (i / connectionBytes < connectionCount) → byteAt (fresh now .connections) i ≡ 0
+    own i z (yes h) =
+        let l = low i z in
+        let u = high i z in
         let e : connectionAt (i / connectionBytes) + i % connectionBytes ≡ i = omega arith in
         let j = i % connectionBytes in
         (rw e at (fresh-connection now (i / connectionBytes) h j (omega arith)))
         ∙ rw (ne-eqb j 0 (λ z. omega arith), ne-eqb j 1 (λ z. omega arith))
-    own i l u (no h) = byte-past (fresh now .connections) i (omega (arith, fresh-sizes now .connections))
+    own i z (no h) = byte-past (fresh now .connections) i (omega (arith, fresh-sizes now .connections))
 
     row : (i : ℕ) → 13 ≤ i % leaseBytes → i % leaseBytes < 16 → Dec (i / leaseBytes < rowCount) → byteAt (fresh now .leases) i ≡ 0
     row i l u (yes h) =

@@ -8,7 +8,7 @@ use mathlib.Core.List.{List}
 use native.Mathlib.Omega.{arith}
 use borrow.Author.Tests.{le-leb, lt-leb, eq-eqb, eqb-true}
 use Rattle.octets.specs.Octets.{byteAt, part}
-use Rattle.rules.specs.Tables.{partnerOf, ownerOf, state, peer, inSession, hasSession, expiry, idOf, live, holder, cookieOf, holderCounts, bucketOf, clock}
+use Rattle.rules.specs.Tables.{partnerOf, ownerOf, state, peer, isUnanswered, lastSent, keepaliveSent, inSession, hasSession, expiry, idOf, live, holder, cookieOf, holderCounts, bucketOf, clock}
 use Rattle.rules.specs.Layout.{ConnectionFields, LeaseFields, AllowanceFields, CallWords}
 use Rattle.rules.specs.Laws.{InSession}
 use Rattle.rules.proofs.Exactly.{eq-exactly, lt-exactly, and-exactly}
@@ -17,11 +17,14 @@ use Rattle.rules.proofs.Connections.{paired, in-session, session-with}
 -- ---- fields
 
 pub connection-fields : (cs : List ℕ) (c : ℕ) → ConnectionFields cs c
-unfolding state
+unfolding state isUnanswered lastSent keepaliveSent
 connection-fields cs c = record {
   state-known = λ h. rw (le-leb (byteAt cs (64 * c)) 2 h);
   state-above = λ h. rw (lt-leb (byteAt cs (64 * c)) 2 h);
   peer-is = refl;
+  unanswered-is = eq-exactly (byteAt cs (64 * c + 2)) 1;
+  last-sent-is = refl;
+  keepalive-sent-is = refl;
   session-id-is = refl;
   peer-id-is = let e : 64 * c + 16 + 16 ≡ 64 * c + 32 = omega arith in ap (λ (at : ℕ). part cs at 16) e;
   peer-key-is = let e : 64 * c + 16 + 16 + 16 ≡ 64 * c + 48 = omega arith in ap (λ (at : ℕ). part cs at 16) e;
@@ -39,11 +42,11 @@ allowance-fields al p = record { level-is = refl; updated-is = refl; clock-is = 
 -- what a call brings
 pub call-words : (now c : ℕ) (m random reply relay : List ℕ) → CallWords now c m random reply relay
 call-words now c m random reply relay = record {
-  times = (refl, refl, refl);
-  connections = (refl, refl, refl);
-  callers = (refl, refl, refl);
-  replies = (refl, refl, refl);
-  relays = (refl, refl, refl);
+  times = (refl, refl, refl, refl);
+  connections = (refl, refl, refl, refl);
+  callers = (refl, refl, refl, refl);
+  replies = (refl, refl, refl, refl);
+  relays = (refl, refl, refl, refl);
 }
 
 -- ---- tests

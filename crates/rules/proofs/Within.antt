@@ -2,10 +2,11 @@
 use Prim.Native.Nat.{ℕ}
 use mathlib.Core.Path.{_≡_, refl, sym}
 use mathlib.Core.Logic.{_≢_}
-use mathlib.Core.Bool.{true}
-use mathlib.Core.List.{List}
+use mathlib.Core.Bool.{Bool, true, false}
+use mathlib.Core.List.{List, []}
 use native.Mathlib.Omega.{arith}
 use lib.Dec.{eqb, ltb}
+use lib.ListN.{length}
 use Rattle.octets.specs.Octets.{if_then_else_}
 use Rattle.svsc.specs.Messages.{cookieBytes}
 use Rattle.rules.specs.Sizes.{rowsPerPartner, connectionBytes, leaseBytes, nobody}
@@ -13,13 +14,16 @@ use Rattle.rules.specs.Searches.{firstRow, endRow}
 use Rattle.rules.specs.Tables.{Tables, partnerOf, ownerOf, opened, peer, hasSession}
 use Rattle.rules.specs.Leases.{decideLease, leaseEnd, rowToExtend, release}
 use Rattle.rules.specs.Sessions.{EstablishDecision, refusedWith, establishedWith, decideEstablish, establish}
-use Rattle.rules.specs.Plans.{Plan, doNothing, planOpen, planVersionAnswer, planLease, planExtension, planEstablish, planEnd, planData, planClose}
-use Rattle.rules.specs.Laws.{WithinPartner}
+use Rattle.rules.specs.Plans.{Plan, doNothing, planOpen, planVersionAnswer, planLease, planExtension, planEstablish, planEnd, planData, planClose, planCall, answeredBy, plan}
+use Rattle.rules.specs.Calls.{Call, timeOf, connectionOf}
+use Rattle.rules.specs.Charges.{received}
+use Rattle.rules.specs.Checks.{precheck}
 use Rattle.rules.proofs.Records.{Kept, kept-same, kept-trans, length-part-most}
 use Rattle.rules.proofs.Connections.{paired, joined-others, keys-most, kept-clear, kept-state, kept-await, kept-end}
 use Rattle.rules.proofs.Rows.{kept-expiry, kept-grant, kept-renew, kept-release}
 use Rattle.rules.proofs.Decisions.{is-renewed, is-granted, is-extended, is-established}
-use Rattle.rules.proofs.Plans.{Each, by-lease, by-test}
+use Rattle.rules.proofs.Plans.{Each, kindOf, every-plan, by-lease, by-test}
+use Rattle.rules.proofs.Marks.{by-caller, kept-answered, kept-ask, kept-stamp}
 
 module _ (tables : Tables) (now c : ℕ) where
   open Tables tables using (connections as cs, leases as ls, allowances as al)
@@ -30,21 +34,27 @@ module _ (tables : Tables) (now c : ℕ) where
   abbrev NotRowOf : ℕ → Type 0
   NotRowOf r = ownerOf r ≢ partnerOf c
 
-  abbrev Within : Plan → Type 0
-  Within x = WithinPartner (partnerOf c) tables (x .connections) (x .leases) (x .destination)
+  pub record Within (x : Plan) : Type 0 where
+    pub connections : Kept connectionBytes NotOf cs (x .connections)
+    pub leases : Kept leaseBytes NotRowOf ls (x .leases)
+    pub destination : x .destination ≢ nobody → partnerOf (x .destination) ≡ partnerOf c
+    pub to-own : length (x .relay) ≢ 0 → partnerOf (x .destination) ≡ partnerOf c
 
   -- nothing sent to another connection
-  quiet : (ds ms : List ℕ) → Kept connectionBytes NotOf cs ds → Kept leaseBytes NotRowOf ls ms
-      → WithinPartner (partnerOf c) tables ds ms nobody
-  quiet ds ms f g = record { connections = f .at; leases = g .at; destination = λ n. absurd (n refl) }
+  abbrev silently : List ℕ → Bool → List ℕ → List ℕ → Plan
+  silently reply u ds ms = record { reply = reply; relay = []; destination = nobody; disconnect = u; connections = ds; leases = ms }
 
-  same-rows : (ms : List ℕ) → Kept leaseBytes NotRowOf ls ms → WithinPartner (partnerOf c) tables cs ms nobody
+  quiet : {reply : List ℕ} {u : Bool} (ds ms : List ℕ) → Kept connectionBytes NotOf cs ds → Kept leaseBytes NotRowOf ls ms
+      → Within (silently reply u ds ms)
+  quiet ds ms f g = record { connections = f; leases = g; destination = λ n. absurd (n refl); to-own = λ n. absurd (n refl) }
+
+  same-rows : {reply : List ℕ} (ms : List ℕ) → Kept leaseBytes NotRowOf ls ms → Within (silently reply false cs ms)
   same-rows ms g = quiet cs ms (kept-same cs) g
 
-  same-connections : (ds : List ℕ) → Kept connectionBytes NotOf cs ds → WithinPartner (partnerOf c) tables ds ls nobody
+  same-connections : {reply : List ℕ} {u : Bool} (ds : List ℕ) → Kept connectionBytes NotOf cs ds → Within (silently reply u ds ls)
   same-connections ds f = quiet ds ls f (kept-same ls)
 
-  nothing-within : Within (doNothing tables)
+  nothing-within : {reply : List ℕ} → Within (silently reply false cs ls)
   nothing-within = same-rows ls (kept-same ls)
 
   open-within : Within (planOpen tables c)
@@ -89,9 +99,10 @@ module _ (tables : Tables) (now c : ℕ) where
       let of-one = is-established cs ls now c id h e .of-one in
       record {
         connections =
-            joined-others {Other = NotOf} cs c h h c _ _ (λ n. n refl) (λ n. n of-one) (keys-most random _ _) (keys-most random _ _) .at;
-        leases = λ r n. refl;
+            joined-others {Other = NotOf} cs c h h c _ _ (λ n. n refl) (λ n. n of-one) (keys-most random _ _) (keys-most random _ _);
+        leases = kept-same ls;
         destination = λ n. of-one;
+        to-own = λ n. of-one;
       }
 
   end-within : hasSession cs c ≡ true → Within (planEnd tables c)
@@ -99,18 +110,17 @@ module _ (tables : Tables) (now c : ℕ) where
   end-within h =
       let of-one = paired cs c (peer cs c) h .of-one in
       record {
-        connections = kept-end {Other = NotOf} cs c (peer cs c) (λ n. n refl) (λ n. n (sym of-one)) .at;
-        leases = λ r n. refl;
+        connections = kept-end {Other = NotOf} cs c (peer cs c) (λ n. n refl) (λ n. n (sym of-one));
+        leases = kept-same ls;
         destination = λ n. sym of-one;
+        to-own = λ n. sym of-one;
       }
 
   data-within : hasSession cs c ≡ true → (bytes : List ℕ) → Within (planData tables c bytes)
   unfolding planData hasSession
-  data-within h bytes = record {
-    connections = λ d n. refl;
-    leases = λ r n. refl;
-    destination = λ n. sym (paired cs c (peer cs c) h .of-one);
-  }
+  data-within h bytes =
+      let of-one = sym (paired cs c (peer cs c) h .of-one) in
+      record { connections = kept-same cs; leases = kept-same ls; destination = λ n. of-one; to-own = λ n. of-one }
 
   close-within : Within (planClose tables c)
   unfolding planClose release
@@ -118,13 +128,13 @@ module _ (tables : Tables) (now c : ℕ) where
       let ended = (if hasSession cs c then planEnd tables c else doNothing tables) in
       let w : Within ended = by-test Within (hasSession cs c) end-within (λ h. nothing-within) in
       record {
-        connections =
-            kept-trans {xs = cs} (record { at = w .connections }) (kept-clear {Other = NotOf} (ended .connections) c (λ n. n refl)) .at;
-        leases = kept-release {Other = NotRowOf} rowsPerPartner ls c (firstRow (partnerOf c)) (λ k l u n. n (omega arith)) .at;
+        connections = kept-trans (w .connections) (kept-clear {Other = NotOf} (ended .connections) c (λ n. n refl));
+        leases = kept-release {Other = NotRowOf} rowsPerPartner ls c (firstRow (partnerOf c)) (λ k l u n. n (omega arith));
         destination = w .destination;
+        to-own = w .to-own;
       }
 
-  pub each-within : (n kind : ℕ) → Each Within tables now c n kind
+  each-within : (n kind : ℕ) → Each Within tables now c n kind
   each-within n kind = record {
     open-plan = open-within;
     version-answer = λ t. answer-within;
@@ -135,4 +145,38 @@ module _ (tables : Tables) (now c : ℕ) where
     data-plan = λ h bytes l. data-within h bytes;
     no-plan = nothing-within;
     close-plan = close-within;
+    dead-plan = λ t. record {
+      connections = close-within .connections;
+      leases = close-within .leases;
+      destination = close-within .destination;
+      to-own = close-within .to-own;
+    };
+    ask-plan = same-connections _ (kept-ask cs c (λ n. n refl) now);
   }
+
+pub asked-within : (tables : Tables) (call : Call) → precheck tables call ≡ 0
+    → Within tables (timeOf call) (connectionOf call) (planCall tables call)
+asked-within tables call h =
+    every-plan _ tables call h (each-within tables (timeOf call) (connectionOf call) (received call) (kindOf call))
+
+-- What is written of the messages that were sent and heard stays inside too.
+pub plan-within : (tables : Tables) (call : Call) → precheck tables call ≡ 0
+    → Within tables (timeOf call) (connectionOf call) (plan tables call)
+unfolding plan
+plan-within tables call h =
+    let now = timeOf call in
+    let c = connectionOf call in
+    let x = planCall tables call in
+    let w = asked-within tables call h in
+    let heard =
+    by-caller (Kept connectionBytes (NotOf tables now c) (x .connections)) call (x .connections)
+    (kept-same (x .connections))
+    (kept-answered (x .connections) c (λ n. n refl)) in
+    let replied = kept-stamp {Other = NotOf tables now c} (answeredBy call (x .connections)) now (length (x .reply)) c (λ s n. n refl) in
+    let relayed = kept-stamp {Other = NotOf tables now c} _ now (length (x .relay)) (x .destination) (λ s n. n (w .to-own s)) in
+    record {
+      connections = kept-trans (w .connections) (kept-trans heard (kept-trans replied relayed));
+      leases = w .leases;
+      destination = w .destination;
+      to-own = w .to-own;
+    }

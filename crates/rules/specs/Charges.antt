@@ -9,19 +9,21 @@ use Rattle.svsc.specs.Messages.{typeOf}
 use Rattle.allowance.specs.Bucket.{levelNow, spend}
 use Rattle.rules.specs.Sizes.{callCost}
 use Rattle.rules.specs.Tables.{Tables, bucketOf, setBucket}
-use Rattle.rules.specs.Calls.{Call, opening, message, closing, callerOf, timeOf}
+use Rattle.rules.specs.Calls.{Call, opening, message, closing, keepalive, callerOf, timeOf}
 
--- "Opens and messages other than SessionEnd are charged, each by its cost"
+-- "Opens and messages other than SessionEnd are charged, each by its cost"; 02, Item 3: "A new host call .., free of charge"
 abbrev pub charged : Call → Bool
 charged (opening now c reply) = true
 charged (message now c m random reply relay) = not (eqb (typeOf m) 9)
 charged (closing now c relay) = false
+charged (keepalive now c reply relay) = false
 
 -- the bytes received
 abbrev pub received : Call → ℕ
 received (opening now c reply) = 0
 received (message now c m random reply relay) = length m
 received (closing now c relay) = 0
+received (keepalive now c reply relay) = 0
 
 -- "A message costs 32 plus its length; an open costs 32; SessionEnd, close and making a fresh relay cost nothing."
 unfoldable pub cost : Call → ℕ

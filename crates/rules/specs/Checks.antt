@@ -1,4 +1,5 @@
--- The nine checks (01, "Answer numbers and their order").
+-- The nine checks (01, "Answer numbers and their order"). 02, Item 3, of a keepalive: "Checks 1 to 5 apply as for close, with both trays at
+-- least 64."
 use Prim.Native.Nat.{ℕ, suc, max}
 use mathlib.Core.Bool.{Bool, true, false, not, _&&_, _||_}
 use mathlib.Core.List.{List, [], _∷_, _++_}
@@ -7,7 +8,7 @@ use lib.Dec.{eqb, leb, ltb}
 use Rattle.svsc.specs.Messages.{typeOf, fromPeer}
 use Rattle.rules.specs.Sizes.{connectionCount, timeLimit, randomBytes, leastBuffer}
 use Rattle.rules.specs.Tables.{Tables, state, isClosed, hasSession, clock, sized}
-use Rattle.rules.specs.Calls.{Call, opening, message, closing, timeOf, connectionOf}
+use Rattle.rules.specs.Calls.{Call, opening, message, closing, keepalive, timeOf, connectionOf}
 use Rattle.rules.specs.Charges.{price, callerLevel}
 
 -- 1: "a table isn't 4,096, 5,120 or 144 bytes"
@@ -30,6 +31,7 @@ unfoldable pub wrongState : List ℕ → Call → Bool
 wrongState cs (opening now c reply) = not (isClosed cs c)
 wrongState cs (message now c m random reply relay) = isClosed cs c
 wrongState cs (closing now c relay) = isClosed cs c
+wrongState cs (keepalive now c reply relay) = isClosed cs c
 
 -- 5: "message: draw not 80 bytes, reply tray under 64, relay tray under the larger of 64 and the message length; open: reply tray under 64;
 -- close: relay tray under 64"
@@ -38,12 +40,14 @@ wrongLengths (opening now c reply) = ltb (length reply) leastBuffer
 wrongLengths (message now c m random reply relay) =
     not (eqb (length random) randomBytes) || ltb (length reply) leastBuffer || ltb (length relay) (max leastBuffer (length m))
 wrongLengths (closing now c relay) = ltb (length relay) leastBuffer
+wrongLengths (keepalive now c reply relay) = ltb (length reply) leastBuffer || ltb (length relay) leastBuffer
 
 -- 6: "not a message that peers send, per the table above"
 unfoldable pub notFromPeer : Call → Bool
 notFromPeer (opening now c reply) = false
 notFromPeer (message now c m random reply relay) = not (fromPeer m)
 notFromPeer (closing now c relay) = false
+notFromPeer (keepalive now c reply relay) = false
 
 -- 7: "which type may come in which state is a table of three rows and fourteen columns; awaiting permits 1 only, open permits 2, 4, 6,
 -- 9, 11, 13"
@@ -61,12 +65,14 @@ unfoldable pub notPermitted : List ℕ → Call → Bool
 notPermitted cs (opening now c reply) = false
 notPermitted cs (message now c m random reply relay) = not (permits (state cs c) (typeOf m))
 notPermitted cs (closing now c relay) = false
+notPermitted cs (keepalive now c reply relay) = false
 
 -- 8: "type 9 or 11 without a session"
 unfoldable pub noSession : List ℕ → Call → Bool
 noSession cs (opening now c reply) = false
 noSession cs (message now c m random reply relay) = (eqb (typeOf m) 9 || eqb (typeOf m) 11) && not (hasSession cs c)
 noSession cs (closing now c relay) = false
+noSession cs (keepalive now c reply relay) = false
 
 -- 9: "the charge exceeds the partner's level"; "Equal cost and level passes."
 unfoldable pub aboveLevel : Tables → Call → Bool

@@ -1,20 +1,20 @@
--- What 01, "Effects", says of each call that is done, as statements: what is sent to whom, and what stands in the tables afterwards, byte by
+-- What 01, "Effects", and 02, Item 3, say of each call that is done, as statements: what is sent to whom, and what stands in the tables afterwards, byte by
 -- byte. 01's numbers stand here as numbers, but for the sizes of records and the number of rows.
 use Prim.Native.Nat.{ℕ, _+_, _*_, _%_, _≤_, _<_}
 use mathlib.Core.Path.{_≡_}
-use mathlib.Core.Logic.{_≢_, _⊎_}
+use mathlib.Core.Logic.{_≢_, _⊎_, _↔_}
 use mathlib.Core.Bool.{Bool, true, false}
 use mathlib.Core.List.{List}
 use lib.Dec.{eqb}
 use lib.ListN.{length, replicate}
 use Rattle.octets.specs.Octets.{if_then_else_, byteAt, part, numberAt, put}
-use Rattle.svsc.specs.Messages.{Established, EstablishNotification, encode}
+use Rattle.svsc.specs.Messages.{Established, EstablishNotification, Keepalive, encode}
 use Rattle.rules.specs.Sizes.{rowCount, connectionBytes, leaseBytes}
 use Rattle.rules.specs.Searches.{endRow}
-use Rattle.rules.specs.Tables.{Tables, partnerOf, ownerOf, connectionAt, inSession, hasSession, holderCounts, sessionIdOf, peerIdOf, peerKeyOf, live, expiry, idOf, holder, cookieOf}
+use Rattle.rules.specs.Tables.{Tables, partnerOf, ownerOf, connectionAt, inSession, hasSession, holderCounts, lastSent, keepaliveSent, sessionIdOf, peerIdOf, peerKeyOf, live, expiry, idOf, holder, cookieOf}
 use Rattle.rules.specs.Leases.{LeaseDecision, holdsLease, noSpareRow, cookieInUse, noFreeId, renewed, granted}
 use Rattle.rules.specs.Sessions.{EstablishDecision, refusedWith, establishedWith}
-use Rattle.rules.specs.Calls.{Call, replyBuffer, relayBuffer, Outcome}
+use Rattle.rules.specs.Calls.{Call, opening, message, closing, keepalive, timeOf, connectionOf, replyBuffer, relayBuffer, Outcome}
 use Rattle.rules.specs.Bytes.{ChangedOnly, InField}
 
 -- ---- what is sent: the whole answer, and both buffers
@@ -48,20 +48,42 @@ InConnection c i = InField connectionBytes c 0 connectionBytes i
 abbrev pub InSessionBytes : ℕ → ℕ → Type 0
 InSessionBytes c i = InField connectionBytes c 1 1 i ⊎ InField connectionBytes c 16 48 i
 
+-- byte 2, 4-8 and 9-13 of it: an unanswered keepalive, the time of the last message sent to it, and that of the keepalive
+abbrev pub InUnanswered : ℕ → ℕ → Type 0
+InUnanswered c i = InField connectionBytes c 2 1 i
+
+abbrev pub InLastSent : ℕ → ℕ → Type 0
+InLastSent c i = InField connectionBytes c 4 5 i
+
+abbrev pub InKeepaliveSent : ℕ → ℕ → Type 0
+InKeepaliveSent c i = InField connectionBytes c 9 5 i
+
 -- "connections all zero but byte 1 = 255", and but for the state
+abbrev pub freshByte : ℕ → ℕ → ℕ
+freshByte s i = if eqb i 0 then s else if eqb i 1 then 255 else 0
+
 abbrev pub FreshBut : ℕ → List ℕ → ℕ → Type 0
-FreshBut s cs c =
-    (i : ℕ) → i < connectionBytes → byteAt cs (connectionAt c + i) ≡ (if eqb i 0 then s else if eqb i 1 then 255 else 0)
+FreshBut s cs c = (i : ℕ) → i < connectionBytes → byteAt cs (connectionAt c + i) ≡ freshByte s i
 
 -- "lose the session (byte 1 = 255, 16-63 zero)"
 pub record Cleared (cs : List ℕ) (c : ℕ) : Type 0 where
   pub peer-none : byteAt cs (connectionAt c + 1) ≡ 255
   pub keys-zero : part cs (connectionAt c + 16) 48 ≡ replicate 48 0
 
--- An open: "the record becomes fresh but for state 1; reply is the version message"
+-- byte 2 and 4-8 of the caller of a message that is replied to
+abbrev pub InOwnMarks : ℕ → ℕ → Type 0
+InOwnMarks c i = InUnanswered c i ⊎ InLastSent c i
+
+-- no row changes, and of the connection records only these bytes
+pub record MarksOnly (P : ℕ → Type 0) (tables : Tables) (o : Outcome) : Type 0 where
+  pub connections : ChangedOnly P (tables .connections) (o .tables .connections)
+  pub leases : o .tables .leases ≡ tables .leases
+
+-- An open: "the record becomes fresh but for state 1; reply is the version message"; 02, Item 3: "Opening sets the first reading" (its value:
+-- Marked)
 pub record Opened (tables : Tables) (call : Call) (c : ℕ) (o : Outcome) (version : List ℕ) : Type 0 where
   pub sent : RepliedOnly call o version
-  pub own : FreshBut 1 (o .tables .connections) c
+  pub own : (i : ℕ) → i < connectionBytes → (i < 4) ⊎ (8 < i) → byteAt (o .tables .connections) (connectionAt c + i) ≡ freshByte 1 i
   pub others : ChangedOnly (InConnection c) (tables .connections) (o .tables .connections)
   pub leases : o .tables .leases ≡ tables .leases
 
@@ -69,7 +91,7 @@ pub record Opened (tables : Tables) (call : Call) (c : ℕ) (o : Outcome) (versi
 pub record VersionTaken (tables : Tables) (call : Call) (c : ℕ) (o : Outcome) : Type 0 where
   pub sent : SentNothing call o false
   pub own : byteAt (o .tables .connections) (connectionAt c) ≡ 2
-  pub others : ChangedOnly (InField connectionBytes c 0 1) (tables .connections) (o .tables .connections)
+  pub others : ChangedOnly (λ i. InField connectionBytes c 0 1 i ⊎ InUnanswered c i) (tables .connections) (o .tables .connections)
   pub leases : o .tables .leases ≡ tables .leases
 
 -- "ok 0 puts the record back to fresh and hangs up"
@@ -95,7 +117,10 @@ pub record KeysToOwners (tables : Tables) (call : Call) (c h id : ℕ) (random :
   pub holder-session : sessionIdOf (o .tables .connections) h ≡ part random 0 16
   pub holder-id : peerIdOf (o .tables .connections) h ≡ part random 48 16
   pub holder-key : peerKeyOf (o .tables .connections) h ≡ part random 64 16
-  pub others : ChangedOnly (λ i. InSessionBytes c i ⊎ InSessionBytes h i) (tables .connections) (o .tables .connections)
+  pub others : ChangedOnly
+      (λ i. (InSessionBytes c i ⊎ InSessionBytes h i) ⊎ (InOwnMarks c i ⊎ InLastSent h i))
+      (tables .connections)
+      (o .tables .connections)
   pub leases : o .tables .leases ≡ tables .leases
 
 -- Type 9: "both records lose the session (byte 1 = 255, 16-63 zero); relay is type 10 to the other"
@@ -104,20 +129,17 @@ pub record SessionEnded (tables : Tables) (call : Call) (c d : ℕ) (o : Outcome
   pub sent : RelayedOnly call o told d
   pub own : Cleared (o .tables .connections) c
   pub other : Cleared (o .tables .connections) d
-  pub others : ChangedOnly (λ i. InSessionBytes c i ⊎ InSessionBytes d i) (tables .connections) (o .tables .connections)
+  pub others : ChangedOnly
+      (λ i. (InSessionBytes c i ⊎ InSessionBytes d i) ⊎ (InUnanswered c i ⊎ InLastSent d i))
+      (tables .connections)
+      (o .tables .connections)
   pub leases : o .tables .leases ≡ tables .leases
 
 -- Type 11: "relay is 12 and the same data, to the other"
 pub record DataRelayed (tables : Tables) (call : Call) (c d : ℕ) (o : Outcome) (bytes : List ℕ) : Type 0 where
   pub paired : inSession (tables .connections) c d ≡ true
   pub sent : RelayedOnly call o bytes d
-  pub connections : o .tables .connections ≡ tables .connections
-  pub leases : o .tables .leases ≡ tables .leases
-
--- no record and no row changes
-pub record TablesStay (tables : Tables) (o : Outcome) : Type 0 where
-  pub connections : o .tables .connections ≡ tables .connections
-  pub leases : o .tables .leases ≡ tables .leases
+  pub stay : MarksOnly (λ i. InUnanswered c i ⊎ InLastSent d i) tables o
 
 -- A close: "sets byte 12 to 255 in the partner's rows that name this connection, puts its record back to fresh"
 pub record Closed (tables : Tables) (c : ℕ) (o : Outcome) : Type 0 where
@@ -132,12 +154,85 @@ pub record Closed (tables : Tables) (c : ℕ) (o : Outcome) : Type 0 where
 pub record ClosedInSession (tables : Tables) (call : Call) (c d : ℕ) (o : Outcome) (told : List ℕ) : Type 0 where
   pub sent : RelayedOnly call o told d
   pub other : Cleared (o .tables .connections) d
-  pub others : ChangedOnly (λ i. InConnection c i ⊎ InSessionBytes d i) (tables .connections) (o .tables .connections)
+  pub others : ChangedOnly
+      (λ i. (InConnection c i ⊎ InSessionBytes d i) ⊎ InLastSent d i)
+      (tables .connections)
+      (o .tables .connections)
 
 -- and else nothing is sent, and no other record changes
 pub record ClosedAlone (tables : Tables) (call : Call) (c : ℕ) (o : Outcome) : Type 0 where
   pub sent : SentNothing call o false
   pub others : ChangedOnly (InConnection c) (tables .connections) (o .tables .connections)
+
+-- ---- dead connections (02, Item 3)
+
+-- a message from a connection, and no other call
+abbrev pub IsMessage : Call → Type 0
+IsMessage (opening now c reply) = ⊥
+IsMessage (message now c m random reply relay) = Unit {0}
+IsMessage (closing now c relay) = ⊥
+IsMessage (keepalive now c reply relay) = ⊥
+
+-- Every call that is done: "4-8 the reading of the last message sent to it", of whoever is sent one; "Any done message from the connection
+-- clears byte 2."
+pub record Marked (call : Call) (o : Outcome) : Type 0 where
+  pub replied : o .answer .replyLength ≢ 0 → lastSent (o .tables .connections) (connectionOf call) ≡ timeOf call
+  pub relayed : o .answer .relayLength ≢ 0 → lastSent (o .tables .connections) (o .answer .destination) ≡ timeOf call
+  pub cleared : IsMessage call → byteAt (o .tables .connections) (connectionAt (connectionOf call) + 2) ≡ 0
+
+-- what a stamp writes, of a message of n bytes to connection c, and what it leaves
+pub record Stamped (cs : List ℕ) (now n c : ℕ) (ds : List ℕ) : Type 0 where
+  pub none : n ≡ 0 → ds ≡ cs
+  pub time-is : n ≢ 0 → lastSent ds c ≡ now
+  pub others : ChangedOnly (InLastSent c) cs ds
+
+-- what an answer to a keepalive writes, and what it leaves
+pub record Answered (cs : List ℕ) (c : ℕ) (ds : List ℕ) : Type 0 where
+  pub zero : byteAt ds (connectionAt c + 2) ≡ 0
+  pub others : ChangedOnly (InUnanswered c) cs ds
+
+-- "unanswered for 60 seconds or more"; "A stored reading after the present one counts as no time passed, and byte 2 other than 1 as none
+-- unanswered"
+abbrev pub Dead : List ℕ → ℕ → ℕ → Type 0
+Dead cs now c = (byteAt cs (connectionAt c + 2) ≡ 1) × (numberAt cs (connectionAt c + 9) 5 + 60 ≤ now)
+
+-- "none unanswered and nothing sent for 30 seconds or more"
+abbrev pub Due : List ℕ → ℕ → ℕ → Type 0
+Due cs now c = (byteAt cs (connectionAt c + 2) ≢ 1) × (numberAt cs (connectionAt c + 4) 5 + 30 ≤ now)
+
+-- a keepalive of connection c that is done: the host has to disconnect it exactly if it is dead, and it is sent a message exactly if one is due
+pub record KeepaliveExactly (cs : List ℕ) (now c : ℕ) (o : Outcome) : Type 0 where
+  pub dead : (o .answer .disconnect ≡ true) ↔ Dead cs now c
+  pub due : (o .answer .replyLength ≢ 0) ↔ Due cs now c
+
+-- "the connection is closed as by close, hang-up yes": the tables and the buffer are what a close leaves, and nothing goes into the reply's
+pub record ClosedAsDead (call : Call) (o closed : Outcome) : Type 0 where
+  pub also-closed : closed .answer .number ≡ 0
+  pub answer : o .answer
+      ≡ record {
+        number = 0;
+        replyLength = 0;
+        relayLength = closed .answer .relayLength;
+        destination = closed .answer .destination;
+        disconnect = true;
+      }
+  pub tables : o .tables ≡ closed .tables
+  pub relay : o .relay ≡ closed .relay
+  pub reply : o .reply ≡ replyBuffer call
+
+-- "a Keepalive goes into the reply tray"; "The Keepalive counts as a message sent and sets byte 2 and both readings."
+pub record Asked (tables : Tables) (call : Call) (now c : ℕ) (o : Outcome) : Type 0 where
+  pub sent : RepliedOnly call o (encode Keepalive)
+  pub unanswered : byteAt (o .tables .connections) (connectionAt c + 2) ≡ 1
+  pub last-sent : lastSent (o .tables .connections) c ≡ now
+  pub keepalive-sent : keepaliveSent (o .tables .connections) c ≡ now
+  pub stay : MarksOnly (λ i. (InUnanswered c i ⊎ InKeepaliveSent c i) ⊎ InLastSent c i) tables o
+
+-- "Otherwise nothing is sent and the answer is 0": no record and no row changes
+pub record Untouched (tables : Tables) (call : Call) (o : Outcome) : Type 0 where
+  pub sent : SentNothing call o false
+  pub connections : o .tables .connections ≡ tables .connections
+  pub leases : o .tables .leases ≡ tables .leases
 
 -- "4 if the caller has a session; 1 if no live row of its partner has the id; 2 if the lowest such row has no holder that counts; 5 if that
 -- holder is the caller; 3 if it has a session; else 0": of connection c, where r is the lowest such row, and d what is decided
@@ -239,7 +334,7 @@ pub record LeaseTold (tables : Tables) (call : Call) (row until id : ℕ) (cooki
   pub sent : RepliedOnly call o told
   pub written : LeaseRow (o .tables .leases) row until id cookie c
   pub others : ChangedOnly (λ i. InField leaseBytes row 0 13 i ⊎ InField leaseBytes row 16 24 i) (tables .leases) (o .tables .leases)
-  pub connections : o .tables .connections ≡ tables .connections
+  pub connections : ChangedOnly (InOwnMarks c) (tables .connections) (o .tables .connections)
 
 -- "renewed for this connection with its id and cookie, and no new row is used": its expiry (`until`, in the law) and its holder are all that
 -- changes of the lease table
@@ -247,7 +342,7 @@ pub record LeaseRenewed (tables : Tables) (call : Call) (row until c : ℕ) (o :
   pub sent : RepliedOnly call o told
   pub written : LeaseRow (o .tables .leases) row until (idOf (tables .leases) row) (cookieOf (tables .leases) row) c
   pub others : ChangedOnly (λ i. InField leaseBytes row 0 8 i ⊎ InField leaseBytes row 12 1 i) (tables .leases) (o .tables .leases)
-  pub connections : o .tables .connections ≡ tables .connections
+  pub connections : ChangedOnly (InOwnMarks c) (tables .connections) (o .tables .connections)
 
 -- "extended exactly if a live row of the partner, held by this connection, has that cookie"
 abbrev pub Extendable : List ℕ → ℕ → ℕ → List ℕ → Type 0
@@ -255,8 +350,8 @@ Extendable ls now c cookie =
     (r : ℕ) × (ownerOf r ≡ partnerOf c) × (live ls now r ≡ true) × (holder ls r ≡ c) × (cookieOf ls r ≡ cookie)
 
 -- "expiry becomes reading + 3,600" (`until`, in the law)
-pub record ExtensionTold (tables : Tables) (call : Call) (row until : ℕ) (o : Outcome) (told : List ℕ) : Type 0 where
+pub record ExtensionTold (tables : Tables) (call : Call) (row until c : ℕ) (o : Outcome) (told : List ℕ) : Type 0 where
   pub sent : RepliedOnly call o told
   pub written : expiry (o .tables .leases) row ≡ until
   pub others : ChangedOnly (InField leaseBytes row 0 8) (tables .leases) (o .tables .leases)
-  pub connections : o .tables .connections ≡ tables .connections
+  pub connections : ChangedOnly (InOwnMarks c) (tables .connections) (o .tables .connections)

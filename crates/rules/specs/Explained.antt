@@ -13,8 +13,8 @@ use Rattle.allowance.specs.Bucket.{levelNow}
 use Rattle.rules.specs.Tables.{Tables, lent, partnerOf, allowanceAt, bucketOf}
 use Rattle.rules.specs.Leases.{LeaseDecision, decideLease}
 use Rattle.rules.specs.Sessions.{EstablishDecision, rowOfId, decideEstablish}
-use Rattle.rules.specs.Calls.{Call, opening, message, closing, timeOf, callerOf}
-use Rattle.rules.specs.Plans.{planLease, planEstablish, plan}
+use Rattle.rules.specs.Calls.{Call, opening, message, closing, keepalive, timeOf, callerOf}
+use Rattle.rules.specs.Plans.{planLease, planEstablish, planCall}
 use Rattle.rules.specs.Charges.{charged, cost}
 use Rattle.rules.specs.Step.{step}
 use Rattle.rules.specs.Reasons.{conditionOf, statusOf, ofLease, ofEstablish, explain}
@@ -37,6 +37,7 @@ abbrev pub AsksDecision : Call → Type 0
 AsksDecision (opening now c reply) = ⊥
 AsksDecision (message now c m random reply relay) = (typeOf m ≡ 2) ⊎ (typeOf m ≡ 6)
 AsksDecision (closing now c relay) = ⊥
+AsksDecision (keepalive now c reply relay) = ⊥
 
 -- A lease, of connection c by message m: the decision is named exactly of a done message of type 2, and its condition is the first that fails.
 -- The plan acted by it (all that fail have one plan), and byte 1 of the reply, "accepted", tells it to the caller.
@@ -44,7 +45,7 @@ pub record LeaseNamed (tables : Tables) (call : Call) (now c : ℕ) (m random : 
   pub exactly : (explain tables call .decided ≡ ofLease d)
       ↔ (Accepted tables call × ((typeOf m ≡ 2) × (d ≡ decideLease (tables .connections) (tables .leases) now c random (part m 2 24))))
   pub first : explain tables call .decided ≡ ofLease d → FirstFailing (tables .leases) now c random (conditionOf d)
-  pub acted : explain tables call .decided ≡ ofLease d → plan tables call ≡ planLease tables now c d
+  pub acted : explain tables call .decided ≡ ofLease d → planCall tables call ≡ planLease tables now c d
   pub told : explain tables call .decided ≡ ofLease d → (conditionOf d ≡ 0) ↔ (byteAt (step tables call .reply) 1 ≡ 1)
 
 -- A session: the same of type 6, with the status, which is byte 5 of the reply.
@@ -54,7 +55,7 @@ pub record EstablishNamed (tables : Tables) (call : Call) (now c : ℕ) (m rando
       × ((typeOf m ≡ 6) × (d ≡ decideEstablish (tables .connections) (tables .leases) now c (numberAt m 1 4))))
   pub first : explain tables call .decided ≡ ofEstablish d
       → Statuses (tables .connections) (tables .leases) c (rowOfId (tables .leases) now (partnerOf c) (numberAt m 1 4)) d
-  pub acted : explain tables call .decided ≡ ofEstablish d → plan tables call ≡ planEstablish tables c (numberAt m 1 4) random d
+  pub acted : explain tables call .decided ≡ ofEstablish d → planCall tables call ≡ planEstablish tables c (numberAt m 1 4) random d
   pub told : explain tables call .decided ≡ ofEstablish d → statusOf d ≡ byteAt (step tables call .reply) 5
 
 -- "a call with its draw and tray lengths": of the buffers that a call writes to, only the lengths count
@@ -65,6 +66,8 @@ pub record LengthsOnly (tables : Tables) (now c : ℕ) (m random : List ℕ) : T
       → explain tables (message now c m random reply relay) ≡ explain tables (message now c m random otherReply otherRelay)
   pub close-alike : (relay other : List ℕ) → length relay ≡ length other
       → explain tables (closing now c relay) ≡ explain tables (closing now c other)
+  pub keepalive-alike : (reply relay otherReply otherRelay : List ℕ) → length reply ≡ length otherReply → length relay ≡ length otherRelay
+      → explain tables (keepalive now c reply relay) ≡ explain tables (keepalive now c otherReply otherRelay)
 
 -- the tables with k units more in partner p's allowance
 unfoldable pub credited : Tables → ℕ → ℕ → Tables

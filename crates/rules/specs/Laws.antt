@@ -1,7 +1,7 @@
 -- What the laws of every call and every run (proofs/Laws) say, as statements. Those of single effects are in Effects.
 use Prim.Native.Nat.{ℕ, _%_, _≤_, _<_}
 use mathlib.Core.Path.{_≡_}
-use mathlib.Core.Logic.{_≢_}
+use mathlib.Core.Logic.{_≢_, _⊎_}
 use mathlib.Core.Bool.{true, false}
 use mathlib.Core.Option.{some}
 use mathlib.Core.List.{List}
@@ -9,10 +9,11 @@ use Rattle.octets.specs.Octets.{byteAt}
 use Rattle.svsc.specs.Messages.{VersionAnswer, decode}
 use Rattle.rules.specs.Sizes.{partners, rowCount, connectionBytes, leaseBytes, nobody}
 use Rattle.rules.specs.Tables.{Tables, partnerOf, ownerOf, state, peer, live, idOf}
-use Rattle.rules.specs.Calls.{Call, opening, message, closing, replyBuffer, relayBuffer, Outcome}
+use Rattle.rules.specs.Calls.{Call, opening, message, closing, keepalive, replyBuffer, relayBuffer, Outcome}
 use Rattle.rules.specs.Step.{step}
 use Rattle.rules.specs.Bytes.{InField}
 use Rattle.rules.specs.Reading.{connectionRecord, leaseRecord}
+use Rattle.rules.specs.Effects.{Dead}
 
 -- "A call is accepted exactly if its answer is 0."
 abbrev pub Accepted : Tables → Call → Type 0
@@ -48,18 +49,23 @@ InAllowance p i = InField 16 p 0 16 i
 abbrev pub InClock : ℕ → Type 0
 InClock i = InField 16 partners 8 8 i
 
--- "only type 1 with ok 0 hangs up"
-abbrev pub RefusesVersion : Call → Type 0
-RefusesVersion (opening now c reply) = ⊥
-RefusesVersion (message now c m random reply relay) = decode m ≡ some (VersionAnswer 0)
-RefusesVersion (closing now c relay) = ⊥
+-- "only type 1 with ok 0 hangs up"; 02, Item 3: "unanswered for 60 seconds or more, .. hang-up yes"
+abbrev pub HangsUp : List ℕ → Call → Type 0
+HangsUp cs (opening now c reply) = ⊥
+HangsUp cs (message now c m random reply relay) = decode m ≡ some (VersionAnswer 0)
+HangsUp cs (closing now c relay) = ⊥
+HangsUp cs (keepalive now c reply relay) = Dead cs now c
 
 -- Any two live rows have different ids.
 abbrev pub DistinctIds : List ℕ → ℕ → Type 0
 DistinctIds ls now =
     (r s : ℕ) → r < rowCount → s < rowCount → live ls now r ≡ true → live ls now s ≡ true → idOf ls r ≡ idOf ls s → r ≡ s
 
--- "2-15 zero" of a connection record, and "13-15 zero" of a lease row
+-- bytes 3, 14 and 15 of a connection record: what 02, Item 3, leaves of "2-15 zero"
+abbrev pub IsSpare : ℕ → Type 0
+IsSpare j = (j ≡ 3) ⊎ ((14 ≤ j) × (j < 16))
+
+-- they are zero, and "13-15 zero" of a lease row
 pub record SpareZero (tables : Tables) : Type 0 where
-  pub connections : (i : ℕ) → 2 ≤ i % connectionBytes → i % connectionBytes < 16 → byteAt (tables .connections) i ≡ 0
+  pub connections : (i : ℕ) → IsSpare (i % connectionBytes) → byteAt (tables .connections) i ≡ 0
   pub leases : (i : ℕ) → 13 ≤ i % leaseBytes → i % leaseBytes < 16 → byteAt (tables .leases) i ≡ 0

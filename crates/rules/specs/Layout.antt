@@ -2,15 +2,16 @@
 -- each call brings: the words in which the other laws speak.
 use Prim.Native.Nat.{ℕ, _+_, _*_, _/_, _≤_, _<_}
 use mathlib.Core.Path.{_≡_}
-use mathlib.Core.Logic.{_⊎_}
+use mathlib.Core.Logic.{_⊎_, _↔_}
+use mathlib.Core.Bool.{true}
 use mathlib.Core.Option.{some}
 use mathlib.Core.List.{List, []}
 use Rattle.octets.specs.Octets.{byteAt, part, numberAt}
 use Rattle.svsc.specs.Messages.{VersionAnswer, LeaseRequest, LeaseRequestWithCookie, ExtensionRequest, EstablishRequest, SessionEnd, DataSend, Keepalive, typeOf, decode}
 use lib.ListN.{drop}
 use Rattle.rules.specs.Sizes.{connectionsPerPartner, rowsPerPartner}
-use Rattle.rules.specs.Tables.{partnerOf, ownerOf, state, peer, sessionIdOf, peerIdOf, peerKeyOf, expiry, idOf, holder, cookieOf, bucketOf, clock}
-use Rattle.rules.specs.Calls.{opening, message, closing, timeOf, connectionOf, callerOf, replyBuffer, relayBuffer}
+use Rattle.rules.specs.Tables.{partnerOf, ownerOf, state, peer, isUnanswered, lastSent, keepaliveSent, sessionIdOf, peerIdOf, peerKeyOf, expiry, idOf, holder, cookieOf, bucketOf, clock}
+use Rattle.rules.specs.Calls.{opening, message, closing, keepalive, timeOf, connectionOf, callerOf, replyBuffer, relayBuffer}
 
 -- "64 bytes. Byte 0 state (0 closed, 1 awaiting the version answer, 2 open), byte 1 peer connection or 255, .. 16-31 session-id, 32-47
 -- peer-id, 48-63 peer-key."; "State above 2 reads as closed."; "Connection c belongs to partner c / 8"
@@ -18,6 +19,11 @@ pub record ConnectionFields (cs : List ℕ) (c : ℕ) : Type 0 where
   pub state-known : byteAt cs (64 * c) ≤ 2 → state cs c ≡ byteAt cs (64 * c)
   pub state-above : 2 < byteAt cs (64 * c) → state cs c ≡ 0
   pub peer-is : peer cs c ≡ byteAt cs (64 * c + 1)
+  -- 02, Item 3: "byte 2 is 1 while a keepalive is unanswered, 4-8 the reading of the last message sent to it, 9-13 that of the unanswered
+  -- keepalive"; "byte 2 other than 1 as none unanswered"
+  pub unanswered-is : (isUnanswered cs c ≡ true) ↔ (byteAt cs (64 * c + 2) ≡ 1)
+  pub last-sent-is : lastSent cs c ≡ numberAt cs (64 * c + 4) 5
+  pub keepalive-sent-is : keepaliveSent cs c ≡ numberAt cs (64 * c + 9) 5
   pub session-id-is : sessionIdOf cs c ≡ part cs (64 * c + 16) 16
   pub peer-id-is : peerIdOf cs c ≡ part cs (64 * c + 32) 16
   pub peer-key-is : peerKeyOf cs c ≡ part cs (64 * c + 48) 16
@@ -40,18 +46,23 @@ pub record AllowanceFields (al : List ℕ) (p : ℕ) : Type 0 where
 -- what is meant by the time, the connection, the partner and the buffers of each call
 pub record CallWords (now c : ℕ) (m random reply relay : List ℕ) : Type 0 where
   pub times : (timeOf (opening now c reply) ≡ now) × (timeOf (message now c m random reply relay) ≡ now) × (timeOf (closing now c relay) ≡ now)
+      × (timeOf (keepalive now c reply relay) ≡ now)
   pub connections : (connectionOf (opening now c reply) ≡ c)
       × (connectionOf (message now c m random reply relay) ≡ c)
       × (connectionOf (closing now c relay) ≡ c)
+      × (connectionOf (keepalive now c reply relay) ≡ c)
   pub callers : (callerOf (opening now c reply) ≡ partnerOf c)
       × (callerOf (message now c m random reply relay) ≡ partnerOf c)
       × (callerOf (closing now c relay) ≡ partnerOf c)
+      × (callerOf (keepalive now c reply relay) ≡ partnerOf c)
   pub replies : (replyBuffer (opening now c reply) ≡ reply)
       × (replyBuffer (message now c m random reply relay) ≡ reply)
       × (replyBuffer (closing now c relay) ≡ [])
+      × (replyBuffer (keepalive now c reply relay) ≡ reply)
   pub relays : (relayBuffer (opening now c reply) ≡ [])
       × (relayBuffer (message now c m random reply relay) ≡ relay)
       × (relayBuffer (closing now c relay) ≡ relay)
+      × (relayBuffer (keepalive now c reply relay) ≡ relay)
 
 -- what a message that peers send is, by its type: the laws of single messages are of these and leave none out
 pub record ByType (m : List ℕ) : Type 0 where

@@ -1,10 +1,11 @@
--- The rules of the relay: all of 01 as definitions, in the order in which they build on each other, and 02's reasons; behind Reasons, from Layout on, what
+-- The rules of the relay: all of 01 and of what 02 adds as definitions, in the order in which they build on each other; behind Reasons, from Layout on, what
 -- the laws say, as statements.
 pub mod Sizes
 pub mod Searches
 pub mod Tables
 pub mod Leases
 pub mod Sessions
+pub mod Keepalives
 pub mod Calls
 pub mod Plans
 pub mod Charges

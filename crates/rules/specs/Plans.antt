@@ -1,9 +1,10 @@
--- What a call that passes the checks would do, decided before it is priced (01, "Effects").
+-- What a call that passes the checks would do, decided before it is priced (01, "Effects"; 02, Item 3).
 use Prim.Native.Nat.{ℕ}
 use mathlib.Core.Bool.{Bool, true, false}
 use mathlib.Core.Option.{Option, none, some}
 use mathlib.Core.List.{List, []}
 use lib.Dec.{eqb, ltb}
+use lib.ListN.{length}
 use Rattle.octets.specs.Octets.{if_then_else_}
 use Rattle.svsc.specs.Messages.{Message, ProtocolVersion, VersionAnswer, LeaseRequest, LeaseRequestWithCookie, LeaseRefused, LeaseGranted, ExtensionRequest, ExtensionRefused, ExtensionGranted, EstablishRequest, EstablishRefused, Established, EstablishNotification, SessionEnd, SessionEndNotification, DataSend, DataReceive, Keepalive, encode, decode}
 use Rattle.rules.specs.Sizes.{nobody}
@@ -11,7 +12,8 @@ use Rattle.rules.specs.Searches.{endRow}
 use Rattle.rules.specs.Tables.{Tables, partnerOf, opened, peer, hasSession, idOf, cookieOf, setState, setExpiry}
 use Rattle.rules.specs.Leases.{LeaseDecision, holdsLease, noSpareRow, cookieInUse, noFreeId, renewed, granted, decideLease, leaseEnd, grant, renew, rowToExtend, release}
 use Rattle.rules.specs.Sessions.{EstablishDecision, refusedWith, establishedWith, decideEstablish, randomSessionId, callersPeerId, callersKey, holdersPeerId, holdersKey, establish, endSession, await, clear}
-use Rattle.rules.specs.Calls.{Call, opening, message, closing}
+use Rattle.rules.specs.Keepalives.{isDead, isDue, ask, answered, stamp}
+use Rattle.rules.specs.Calls.{Call, opening, message, closing, keepalive, timeOf, connectionOf}
 
 -- the messages to the caller and to another connection, as bytes (none where nothing is sent), that connection, whether the host
 -- disconnects the caller, and two tables afterwards
@@ -23,7 +25,7 @@ pub record Plan : Type 0 where
   pub connections : List ℕ
   pub leases : List ℕ
 
--- "With nothing in the relay tray the destination is 255; only type 1 with ok 0 hangs up."
+-- "With nothing in the relay tray the destination is 255"; type 1 with ok 0 and a dead connection hang up, and nothing else
 abbrev pub replyOnly : List ℕ → List ℕ → List ℕ → Plan
 replyOnly cs ls bytes = record { reply = bytes; relay = []; destination = nobody; disconnect = false; connections = cs; leases = ls }
 
@@ -141,7 +143,59 @@ planMessage tables now c random (some SessionEndNotification) = doNothing tables
 planMessage tables now c random (some (DataReceive bytes)) = doNothing tables
 planMessage tables now c random none = doNothing tables
 
+-- 02, Item 3: "unanswered for 60 seconds or more, the connection is closed as by close, hang-up yes; else, none unanswered and nothing sent
+-- for 30 seconds or more, a Keepalive goes into the reply tray. Otherwise nothing is sent"
+abbrev pub disconnecting : Plan → Plan
+disconnecting p = record {
+  reply = p .reply;
+  relay = p .relay;
+  destination = p .destination;
+  disconnect = true;
+  connections = p .connections;
+  leases = p .leases;
+}
+
+unfoldable pub planKeepalive : Tables → ℕ → ℕ → Plan
+planKeepalive tables now c =
+    if isDead (tables .connections) now c then disconnecting (planClose tables c)
+    else if isDue (tables .connections) now c
+    then replyOnly (ask (tables .connections) now c) (tables .leases) (encode Keepalive)
+    else doNothing tables
+
+-- what each call asks for
+unfoldable pub planCall : Tables → Call → Plan
+planCall tables (opening now c reply) = planOpen tables c
+planCall tables (message now c m random reply relay) = planMessage tables now c random (decode m)
+planCall tables (closing now c relay) = planClose tables c
+planCall tables (keepalive now c reply relay) = planKeepalive tables now c
+
+-- ---- what every plan is wrapped in
+
+abbrev pub withConnections : Plan → List ℕ → Plan
+withConnections p cs = record {
+  reply = p .reply;
+  relay = p .relay;
+  destination = p .destination;
+  disconnect = p .disconnect;
+  connections = cs;
+  leases = p .leases;
+}
+
+-- "Any done message from the connection clears byte 2."
+abbrev pub answeredBy : Call → List ℕ → List ℕ
+answeredBy (opening now c reply) cs = cs
+answeredBy (message now c m random reply relay) cs = answered cs c
+answeredBy (closing now c relay) cs = cs
+answeredBy (keepalive now c reply relay) cs = cs
+
+abbrev pub heard : Call → Plan → Plan
+heard call p = withConnections p (answeredBy call (p .connections))
+
+-- "the reading of the last message sent to it": the reply is sent to the caller, what is relayed to its destination. "Opening sets the first
+-- reading", as its reply does.
+abbrev pub stamped : ℕ → ℕ → Plan → Plan
+stamped now c p =
+    withConnections p (stamp (stamp (p .connections) now (length (p .reply)) c) now (length (p .relay)) (p .destination))
+
 unfoldable pub plan : Tables → Call → Plan
-plan tables (opening now c reply) = planOpen tables c
-plan tables (message now c m random reply relay) = planMessage tables now c random (decode m)
-plan tables (closing now c relay) = planClose tables c
+plan tables call = stamped (timeOf call) (connectionOf call) (heard call (planCall tables call))

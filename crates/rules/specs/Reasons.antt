@@ -10,7 +10,7 @@ use Rattle.svsc.specs.Messages.{typeOf}
 use Rattle.rules.specs.Tables.{Tables}
 use Rattle.rules.specs.Leases.{LeaseDecision, holdsLease, noSpareRow, cookieInUse, noFreeId, renewed, granted, decideLease}
 use Rattle.rules.specs.Sessions.{EstablishDecision, refusedWith, establishedWith, decideEstablish}
-use Rattle.rules.specs.Calls.{Call, opening, message, closing}
+use Rattle.rules.specs.Calls.{Call, opening, message, closing, keepalive}
 use Rattle.rules.specs.Charges.{charged, price, callerLevel}
 use Rattle.rules.specs.Checks.{precheck, check}
 
@@ -43,6 +43,7 @@ asked tables (message now c m random reply relay) =
     else if eqb (typeOf m) 6 then ofEstablish (decideEstablish (tables .connections) (tables .leases) now c (numberAt m 1 4))
     else undecided
 asked tables (closing now c relay) = undecided
+asked tables (keepalive now c reply relay) = undecided
 
 -- "for a done lease or establish": what a check stops has not been decided
 unfoldable pub decided : Tables → Call → Decided

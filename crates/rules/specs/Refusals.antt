@@ -12,7 +12,7 @@ use Rattle.svsc.specs.Messages.{Message, typeOf, decode}
 use Rattle.allowance.specs.Bucket.{levelNow}
 use Rattle.rules.specs.Sizes.{connectionCount, connectionsSize, leasesSize, allowancesSize, timeLimit, randomBytes, leastBuffer}
 use Rattle.rules.specs.Tables.{Tables, closed, state, inSession, bucketOf, clock}
-use Rattle.rules.specs.Calls.{Call, opening, message, closing, timeOf, connectionOf, callerOf, Answer}
+use Rattle.rules.specs.Calls.{Call, opening, message, closing, keepalive, timeOf, connectionOf, callerOf, Answer}
 use Rattle.rules.specs.Charges.{cost}
 use Rattle.rules.specs.Checks.{checks}
 
@@ -25,19 +25,21 @@ pub record RightSizes (tables : Tables) : Type 0 where
   pub leases : length (tables .leases) ≡ leasesSize
   pub allowances : length (tables .allowances) ≡ allowancesSize
 
--- 4: "open on a connection not closed; message or close on a closed one"
+-- 4: "open on a connection not closed; message or close on a closed one"; 02, Item 3: "Checks 1 to 5 apply as for close"
 abbrev pub InWrongState : List ℕ → Call → Type 0
 InWrongState cs (opening now c reply) = state cs c ≢ closed
 InWrongState cs (message now c m random reply relay) = state cs c ≡ closed
 InWrongState cs (closing now c relay) = state cs c ≡ closed
+InWrongState cs (keepalive now c reply relay) = state cs c ≡ closed
 
 -- 5: "message: draw not 80 bytes, reply tray under 64, relay tray under the larger of 64 and the message length; open: reply tray under 64;
--- close: relay tray under 64"
+-- close: relay tray under 64"; 02, Item 3: "with both trays at least 64"
 abbrev pub OfWrongLengths : Call → Type 0
 OfWrongLengths (opening now c reply) = length reply < leastBuffer
 OfWrongLengths (message now c m random reply relay) =
     ((length random ≢ randomBytes) ⊎ (length reply < leastBuffer)) ⊎ (length relay < max leastBuffer (length m))
 OfWrongLengths (closing now c relay) = length relay < leastBuffer
+OfWrongLengths (keepalive now c reply relay) = (length reply < leastBuffer) ⊎ (length relay < leastBuffer)
 
 -- a number is one of a list
 unfoldable pub isOneOf : ℕ → List ℕ → Bool
@@ -52,6 +54,7 @@ abbrev pub NotSentByPeer : Call → Type 0
 NotSentByPeer (opening now c reply) = ⊥
 NotSentByPeer (message now c m random reply relay) = SentByPeer m → ⊥
 NotSentByPeer (closing now c relay) = ⊥
+NotSentByPeer (keepalive now c reply relay) = ⊥
 
 -- 7: "not permitted in this state: .. awaiting permits 1 only, open permits 2, 4, 6, 9, 11, 13"
 abbrev pub permittedTypes : ℕ → List ℕ
@@ -61,6 +64,7 @@ abbrev pub NotPermittedHere : List ℕ → Call → Type 0
 NotPermittedHere cs (opening now c reply) = ⊥
 NotPermittedHere cs (message now c m random reply relay) = isOneOf (typeOf m) (permittedTypes (state cs c)) ≡ false
 NotPermittedHere cs (closing now c relay) = ⊥
+NotPermittedHere cs (keepalive now c reply relay) = ⊥
 
 -- 8: "type 9 or 11 without a session"
 abbrev pub WithoutSession : List ℕ → Call → Type 0
@@ -68,6 +72,7 @@ WithoutSession cs (opening now c reply) = ⊥
 WithoutSession cs (message now c m random reply relay) =
     ((typeOf m ≡ 9) ⊎ (typeOf m ≡ 11)) × ((d : ℕ) → inSession cs c d ≡ true → ⊥)
 WithoutSession cs (closing now c relay) = ⊥
+WithoutSession cs (keepalive now c reply relay) = ⊥
 
 -- each check of a call applies exactly if its sentence holds
 pub record EachExactly (tables : Tables) (call : Call) : Type 0 where

@@ -51,6 +51,17 @@ nobody = 255
 abbrev pub timeLimit : ℕ
 timeLimit = 2 ^ 40
 
+-- 02, Item 3: "4-8 the reading ..", "9-13": what a time below 2^40 takes
+abbrev pub timeBytes : ℕ
+timeBytes = 5
+
+-- 02, Item 3: "a KeepaliveTimeout of 30 seconds"; "unanswered for 60 seconds or more"
+abbrev pub keepaliveTimeout : ℕ
+keepaliveTimeout = 30
+
+abbrev pub answerTimeout : ℕ
+answerTimeout = 60
+
 -- Check 5: "draw not 80 bytes, reply tray under 64"
 abbrev pub randomBytes : ℕ
 randomBytes = 80

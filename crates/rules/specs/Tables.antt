@@ -8,7 +8,7 @@ use lib.Dec.{eqb, leb, ltb}
 use Rattle.octets.specs.Octets.{if_then_else_, byteAt, bigEndian, part, numberAt, put}
 use Rattle.svsc.specs.Messages.{cookieBytes, keyBytes}
 use Rattle.allowance.specs.Bucket.{Bucket, full}
-use Rattle.rules.specs.Sizes.{partners, connectionsPerPartner, rowsPerPartner, connectionCount, rowCount, connectionBytes, leaseBytes, allowanceBytes, connectionsSize, leasesSize, allowancesSize, nobody}
+use Rattle.rules.specs.Sizes.{partners, connectionsPerPartner, rowsPerPartner, connectionCount, rowCount, connectionBytes, leaseBytes, allowanceBytes, connectionsSize, leasesSize, allowancesSize, timeBytes, nobody}
 
 -- "Three lent byte tables of fixed records, without headers."
 pub record Tables : Type 0 where
@@ -27,13 +27,26 @@ partnerOf c = c / connectionsPerPartner
 abbrev pub ownerOf : ℕ → ℕ
 ownerOf r = r / rowsPerPartner
 
--- ---- connections: "Byte 0 state .., byte 1 peer connection or 255, 2-15 zero, 16-31 session-id, 32-47 peer-id, 48-63 peer-key."
+-- ---- connections: "Byte 0 state .., byte 1 peer connection or 255, .. 16-31 session-id, 32-47 peer-id, 48-63 peer-key."; 02, Item 3: "The
+-- connection record's spare bytes get a meaning: byte 2 .., 4-8 .., 9-13". 3, 14 and 15 stay zero.
 
 abbrev pub connectionAt : ℕ → ℕ
 connectionAt c = connectionBytes * c
 
 abbrev pub peerAt : ℕ → ℕ
 peerAt c = connectionAt c + 1
+
+-- "byte 2 is 1 while a keepalive is unanswered"
+abbrev pub unansweredAt : ℕ → ℕ
+unansweredAt c = connectionAt c + 2
+
+-- "4-8 the reading of the last message sent to it"
+abbrev pub lastSentAt : ℕ → ℕ
+lastSentAt c = connectionAt c + 4
+
+-- "9-13 that of the unanswered keepalive"
+abbrev pub keepaliveAt : ℕ → ℕ
+keepaliveAt c = connectionAt c + 9
 
 abbrev pub keysAt : ℕ → ℕ
 keysAt c = connectionAt c + 16
@@ -83,11 +96,30 @@ peerIdOf cs c = part cs (keysAt c + keyBytes) keyBytes
 abbrev pub peerKeyOf : List ℕ → ℕ → List ℕ
 peerKeyOf cs c = part cs (keysAt c + keyBytes + keyBytes) keyBytes
 
+-- "byte 2 other than 1 as none unanswered"
+unfoldable pub isUnanswered : List ℕ → ℕ → Bool
+isUnanswered cs c = eqb (byteAt cs (unansweredAt c)) 1
+
+unfoldable pub lastSent : List ℕ → ℕ → ℕ
+lastSent cs c = numberAt cs (lastSentAt c) timeBytes
+
+unfoldable pub keepaliveSent : List ℕ → ℕ → ℕ
+keepaliveSent cs c = numberAt cs (keepaliveAt c) timeBytes
+
 abbrev pub setState : List ℕ → ℕ → ℕ → List ℕ
 setState cs c s = put cs (connectionAt c) (s ∷ [])
 
 abbrev pub setPeer : List ℕ → ℕ → ℕ → List ℕ
 setPeer cs c d = put cs (peerAt c) (d ∷ [])
+
+abbrev pub setUnanswered : List ℕ → ℕ → ℕ → List ℕ
+setUnanswered cs c n = put cs (unansweredAt c) (n ∷ [])
+
+abbrev pub setLastSent : List ℕ → ℕ → ℕ → List ℕ
+setLastSent cs c time = put cs (lastSentAt c) (bigEndian timeBytes time)
+
+abbrev pub setKeepaliveSent : List ℕ → ℕ → ℕ → List ℕ
+setKeepaliveSent cs c time = put cs (keepaliveAt c) (bigEndian timeBytes time)
 
 abbrev pub setKeys : List ℕ → ℕ → List ℕ → List ℕ
 setKeys cs c keys = put cs (keysAt c) keys

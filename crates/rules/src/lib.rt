@@ -26,8 +26,15 @@ pub const LEASES_SIZE: usize = ROW_COUNT * LEASE_BYTES;
 
 pub const ALLOWANCES_SIZE: usize = ALLOWANCE_COUNT * ALLOWANCE_BYTES;
 
-// Where the fields of a record stand in it: of a connection the peer, and session-id, peer-id and peer-key in a row;
+// Where the fields of a record stand in it: of a connection the peer, whether a keepalive is unanswered, the times of the last
+// message sent to it and of that keepalive, and session-id, peer-id and peer-key in a row;
 pub const PEER_AT: usize = 1;
+
+pub const UNANSWERED_AT: usize = 2;
+
+pub const LAST_SENT_AT: usize = 4;
+
+pub const KEEPALIVE_AT: usize = 9;
 
 pub const KEYS_AT: usize = 16;
 
@@ -57,6 +64,11 @@ pub const NOBODY: u8 = 255;
 
 // The first time that is refused.
 pub const TIME_LIMIT: u64 = 1099511627776;
+
+// After how many seconds without a message a connection is sent a keepalive, and after how many more without an answer it is dead.
+pub const KEEPALIVE_TIMEOUT: u64 = 30;
+
+pub const ANSWER_TIMEOUT: u64 = 60;
 
 // The random bytes of a message call, and the least bytes of a buffer.
 pub const RANDOM_BYTES: usize = 80;
