@@ -2,15 +2,17 @@
 use Prim.Native.Nat.{ℕ, zero, suc}
 use mathlib.Core.Path.{_≡_, refl, sym, ap, _∙_}
 use mathlib.Core.List.{List}
-use Rattle.rules.specs.Tables.{lent, Tables}
+use Rattle.rules.specs.Tables.{lent, Tables, setClock}
 use Rattle.octets.specs.Octets.{put}
-use Rattle.rules.specs.Calls.{Call, sentNothing, refusal, replyBuffer, relayBuffer}
+use Rattle.rules.specs.Calls.{Call, sentNothing, refusal, timeOf, connectionOf, replyBuffer, relayBuffer}
+use Rattle.rules.specs.Keepalives.{stamp}
+use Rattle.rules.specs.Charges.{price, charge}
 use Rattle.rules.specs.Checks.{check}
-use Rattle.rules.specs.Plans.{plan, doNothing}
+use Rattle.rules.specs.Plans.{Plan, plan, doNothing, answeredBy, heard, stamped}
 use Rattle.rules.specs.Step.{done, outcome, step}
 use Rattle.answers.specs.declared.Answer.{Answer}
 use Rattle.answers.specs.Results.{Result, result, shown}
-use Rattle.answers.specs.Applied.{handled, applied, coded}
+use Rattle.answers.specs.Applied.{Handled, handled, applied, coded}
 
 -- a call that is refused, and one that is done
 module _ (tables : Tables) (call : Call) (k : ℕ) (e : k ≡ check tables call) where
@@ -31,3 +33,21 @@ pub nothing-done : (cs ls al reply relay : List ℕ) (r : Answer) → r ≡ code
     → handled r cs ls reply relay ≡ applied (doNothing (lent cs ls al)) reply relay
 unfolding applied put
 nothing-done cs ls al reply relay r a = rw a
+
+-- a plan, carried out, with what is written of the messages that it sends and of the one that it heard
+pub marked-done : (tables : Tables) (call : Call) (p : Plan) (cs′ cs″ ls′ al′ reply′ relay′ : List ℕ) (r : Answer)
+    → handled r cs′ ls′ reply′ relay′ ≡ applied p (replyBuffer call) (relayBuffer call)
+    → cs″ ≡ stamp (stamp (answeredBy call cs′) (timeOf call) (r .reply) (connectionOf call)) (timeOf call) (r .relay) (r .destination)
+    → al′ ≡ setClock (charge (tables .allowances) call (price tables call)) (timeOf call)
+    → result r (lent cs″ ls′ al′) reply′ relay′ ≡ shown (done tables call (stamped (timeOf call) (connectionOf call) (heard call p)))
+unfolding applied done
+marked-done tables call p cs′ cs″ ls′ al′ reply′ relay′ r e s h =
+    rw (
+      h,
+      s,
+      ap (λ (x : Handled). x .answer) e,
+      ap (λ (x : Handled). x .connections) e,
+      ap (λ (x : Handled). x .leases) e,
+      ap (λ (x : Handled). x .reply) e,
+      ap (λ (x : Handled). x .relay) e,
+    )

@@ -60,3 +60,16 @@ pub fn disconnected() -> Answer
 {
     answer_of(0, 0, 0, rules::NOBODY, 1)
 }
+
+// The same, and the host has to disconnect the caller.
+pub fn disconnecting(answer: Answer) -> Answer
+    ensures { λ r. ⌜ r ≡ answerOf (answer .number) (answer .reply) (answer .relay) (answer .destination) 1 ⌝ }
+{
+    Answer {
+        number: answer.number,
+        reply: answer.reply,
+        relay: answer.relay,
+        destination: answer.destination,
+        disconnect: 1,
+    }
+}

@@ -59,6 +59,14 @@ pub fn write32(t: &mut [u8], at: usize, v: u32)
     copy(t, at, &bytes);
 }
 
+// Stores the five lowest bytes of a number.
+pub fn write40(t: &mut [u8], at: usize, v: u64)
+    ensures { λ _. ⌜ now (t .exit) ≡ put (now (t .entry)) at (bigEndian 5 v) ⌝ }
+{
+    let bytes = octets::bytes40(v);
+    copy(t, at, &bytes);
+}
+
 // Stores the eight bytes of a number.
 pub fn write64(t: &mut [u8], at: usize, v: u64)
     ensures { λ _. ⌜ now (t .exit) ≡ put (now (t .entry)) at (bigEndian 8 v) ⌝ }

@@ -11,7 +11,7 @@ use lib.Pow.{areBytes}
 use lib.ListN.{length, getD}
 use Rattle.octets.specs.Octets.{numberFrom, number, bigEndian, part, numberAt}
 use Rattle.octets.proofs.Tests.{head-byte, tail-bytes, bytes-part}
-use Rattle.octets.proofs.Parts.{length-part, part-join, part-four}
+use Rattle.octets.proofs.Parts.{length-part, part-join, part-one, part-four}
 
 -- ---- reading
 
@@ -36,6 +36,13 @@ pub numberAt-four : (xs : List ℕ) (at : ℕ) → at + 4 ≤ length xs
     → numberAt xs at 4 ≡ ((getD xs at 0 * 256 + getD xs (at + 1) 0) * 256 + getD xs (at + 2) 0) * 256 + getD xs (at + 3) 0
 unfolding numberAt number numberFrom
 numberAt-four xs at h = rw (part-four xs at h) (omega arith)
+
+pub numberAt-five : (xs : List ℕ) (at : ℕ) → at + 5 ≤ length xs → numberAt xs at 5 ≡ getD xs at 0 * 4294967296 + numberAt xs (at + 1) 4
+unfolding numberAt number numberFrom
+numberAt-five xs at h =
+    ap number (sym (part-join xs at 1 4))
+    ∙ number-append (part xs at 1) (part xs (at + 1) 4)
+    ∙ rw (length-part xs (at + 1) 4 (omega arith), part-one xs at (omega arith)) (omega arith)
 
 pub numberAt-eight : (xs : List ℕ) (at : ℕ) → at + 8 ≤ length xs → numberAt xs at 8 ≡ numberAt xs at 4 * 4294967296 + numberAt xs (at + 4) 4
 unfolding numberAt

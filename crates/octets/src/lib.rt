@@ -53,6 +53,16 @@ pub fn read32(s: &[u8], at: usize) -> u32
     word(s[at], s[at + 1], s[at + 2], s[at + 3])
 }
 
+// The number in the five bytes from a place on; a leaf, as read32.
+pub fn read40(s: &[u8], at: usize) -> u64
+    requires { ⌜ at + 5 ≤ length (now s) ⌝ }
+    ensures { λ r. ⌜ r ≡ numberAt (now (s .entry)) at 5 ⌝ }
+{
+    let a = byte(s, at) as u64;
+    let b = read32(s, at + 1) as u64;
+    a * 4294967296 + b
+}
+
 // The number in the eight bytes from a place on; a leaf, as read32.
 pub fn read64(s: &[u8], at: usize) -> u64
     requires { ⌜ at + 8 ≤ length (now s) ⌝ }
@@ -70,6 +80,19 @@ pub fn bytes32(v: u32) -> [u8; 4]
     ensures { λ r. ⌜ r ≡ bigEndian 4 v ⌝ }
 {
     [
+        (v / 16777216 % 256) as u8,
+        (v / 65536 % 256) as u8,
+        (v / 256 % 256) as u8,
+        (v % 256) as u8,
+    ]
+}
+
+// The five lowest bytes of a number.
+pub fn bytes40(v: u64) -> [u8; 5]
+    ensures { λ r. ⌜ r ≡ bigEndian 5 v ⌝ }
+{
+    [
+        (v / 4294967296 % 256) as u8,
         (v / 16777216 % 256) as u8,
         (v / 65536 % 256) as u8,
         (v / 256 % 256) as u8,

@@ -5,14 +5,15 @@ use mathlib.Core.Path.{_≡_, refl, sym, ap, _∙_}
 use mathlib.Core.Bool.{Bool, true, false, not, _&&_, _||_}
 use mathlib.Core.List.{List, [], _∷_, _++_}
 use native.Mathlib.Omega.{arith}
-use lib.Dec.{eqb, ltb}
+use lib.Dec.{eqb, leb, ltb}
 use lib.ListN.{length}
 use borrow.Author.Tests.{eqb-true, leb-false, le-leb, lt-leb, lt-ltb, le-ltb, ltb-false, eq-eqb, ne-eqb, not-false}
+use Rattle.octets.specs.Octets.{if_then_else_}
 use Rattle.octets.proofs.Tests.{both-left, both-right, either-false}
 use Rattle.rules.specs.Sizes.{connectionCount, connectionsSize, leasesSize, timeLimit, leastBuffer, callCost}
-use Rattle.rules.specs.Tables.{Tables, partnerOf, state, sized, bucketOf, clock}
+use Rattle.rules.specs.Tables.{Tables, partnerOf, state, isClosed, sized, bucketOf, clock}
 use Rattle.allowance.specs.Bucket.{levelNow}
-use Rattle.rules.specs.Calls.{Call, opening, closing, timeOf, connectionOf}
+use Rattle.rules.specs.Calls.{Call, opening, closing, keepalive, timeOf, connectionOf}
 use Rattle.rules.specs.Charges.{cost, price, callerLevel}
 use Rattle.rules.specs.Checks.{wrongSize, unknownConnection, wrongTime, wrongState, wrongLengths, notFromPeer, notPermitted, noSession, aboveLevel, pastLimit, firstApplying, firstEight, checks, check, checkStart}
 use Rattle.refusals.specs.Passed.{firstThree, Sized, Payable}
@@ -233,3 +234,69 @@ module _ (tables : Tables) (time c : ℕ) (relay : List ℕ) (k s : ℕ) (e : k 
         (close-go
         ∙ rw
         (ne-eqb s 0 h, le-ltb (length relay) leastBuffer l, le-ltb (levelNow (bucketOf (tables .allowances) (partnerOf c)) time) 0 (omega arith)))
+
+-- ---- keepalive: a close that also has a reply buffer
+
+-- checks 1 to 4 and the lengths of two buffers, where no other check applies
+abbrev fiveChecks : Bool → Bool → Bool → Bool → Bool → ℕ
+fiveChecks a b c d lengths = firstApplying 1 (a ∷ b ∷ c ∷ d ∷ lengths ∷ false ∷ false ∷ false ∷ false ∷ [])
+
+longer-stops : (a b c d reply relay : Bool) → (fiveChecks a b c d relay ≡ 0 → ⊥) → fiveChecks a b c d relay ≡ fiveChecks a b c d (reply || relay)
+unfolding firstApplying
+longer-stops true b c d reply relay n = refl
+longer-stops false true c d reply relay n = refl
+longer-stops false false true d reply relay n = refl
+longer-stops false false false true reply relay n = refl
+longer-stops false false false false true true n = refl
+longer-stops false false false false false true n = refl
+longer-stops false false false false reply false n = absurd (n refl)
+
+longer-goes : (a b c d reply relay : Bool) → fiveChecks a b c d relay ≡ 0 → fiveChecks a b c d (reply || relay) ≡ (if reply then 5 else 0)
+unfolding firstApplying
+longer-goes true b c d reply relay z = absurd (omega arith)
+longer-goes false true c d reply relay z = absurd (omega arith)
+longer-goes false false true d reply relay z = absurd (omega arith)
+longer-goes false false false true reply relay z = absurd (omega arith)
+longer-goes false false false false reply true z = absurd (omega arith)
+longer-goes false false false false true false z = refl
+longer-goes false false false false false false z = refl
+
+module _ (tables : Tables) (time c : ℕ) (reply relay : List ℕ) (k : ℕ) (e : k ≡ check tables (closing time c relay)) where
+  -- neither costs anything
+  abbrev free : ltb (levelNow (bucketOf (tables .allowances) (partnerOf c)) time) 0 ≡ false
+  free = le-ltb (levelNow (bucketOf (tables .allowances) (partnerOf c)) time) 0 (omega arith)
+
+  abbrev by-lengths : Bool → ℕ
+  by-lengths =
+      fiveChecks (wrongSize tables) (pastLimit time || ltb time (clock (tables .allowances))) (leb connectionCount c) (isClosed (tables .connections) c)
+
+  as-close : check tables (closing time c relay) ≡ by-lengths (ltb (length relay) leastBuffer)
+  unfolding check checks firstEight wrongTime wrongState wrongLengths notFromPeer notPermitted noSession aboveLevel callerLevel price cost
+  as-close = rw free
+
+  as-keepalive : check tables (keepalive time c reply relay) ≡ by-lengths (ltb (length reply) leastBuffer || ltb (length relay) leastBuffer)
+  unfolding check checks firstEight wrongTime wrongState wrongLengths notFromPeer notPermitted noSession aboveLevel callerLevel price cost
+  as-keepalive = rw free
+
+  pub keepalive-stops : (k ≡ 0 → ⊥) → k ≡ check tables (keepalive time c reply relay)
+  keepalive-stops n =
+      e ∙ as-close ∙ longer-stops _ _ _ _ (ltb (length reply) leastBuffer) _ (λ z. n (e ∙ as-close ∙ z)) ∙ sym as-keepalive
+
+  module _ (z : k ≡ 0) where
+    with-reply : check tables (keepalive time c reply relay) ≡ (if ltb (length reply) leastBuffer then 5 else 0)
+    with-reply =
+        as-keepalive ∙ longer-goes _ _ _ _ (ltb (length reply) leastBuffer) (ltb (length relay) leastBuffer) (sym (e ∙ as-close) ∙ z)
+
+    pub keepalive-wrong-lengths : length reply < leastBuffer → 5 ≡ check tables (keepalive time c reply relay)
+    keepalive-wrong-lengths l = sym (with-reply ∙ rw (lt-ltb (length reply) leastBuffer l))
+
+    pub keepalive-passes : leastBuffer ≤ length reply → 0 ≡ check tables (keepalive time c reply relay)
+    keepalive-passes l = sym (with-reply ∙ rw (le-ltb (length reply) leastBuffer l))
+
+-- what passed checks show of it
+pub keepalive-known : (tables : Tables) (time c : ℕ) (reply relay : List ℕ) (k : ℕ) → k ≡ check tables (keepalive time c reply relay) → k ≡ 0
+    → (c < connectionCount) × (leastBuffer ≤ length reply) × (leastBuffer ≤ length relay)
+unfolding wrongLengths
+keepalive-known tables time c reply relay k e z =
+    let fits = either-false _ _ (right-lengths tables (keepalive time c reply relay) k e z) in
+    (call-known tables (keepalive time c reply relay) k e z, ltb-false _ _ (fits .0), ltb-false _ _ (fits .1))

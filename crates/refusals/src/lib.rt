@@ -7,6 +7,7 @@ ghost use Rattle.refusals.specs.Passed.{firstThree};
 pub mod fresh; // making a fresh relay
 pub mod open; // opening a connection
 pub mod close; // closing a connection
+pub mod keepalive; // finding out whether a connection is dead
 
 // Checks 1 to 3, which calls on a connection share.
 pub fn first_three(

@@ -6,12 +6,12 @@ ghost use lib.ListN.{length};
 ghost use Rattle.rules.specs.Tables.{lent};
 ghost use Rattle.rules.specs.Sizes.{connectionCount, leastBuffer};
 ghost use Rattle.rules.specs.Calls.{closing};
-ghost use Rattle.rules.specs.Plans.{planClose};
+ghost use Rattle.rules.specs.Plans.{plan};
 ghost use Rattle.rules.specs.Step.{step, done};
 ghost use Rattle.answers.specs.Results.{result, shown};
 use answers::Answer;
 
-// The work of a close that passes its checks: its session, the rows that name it, its record and the clock.
+// The work of a close that passes its checks: what ends, who is told, and the clock.
 fn accept(
     connections: &mut [u8],
     leases: &mut [u8],
@@ -24,11 +24,17 @@ fn accept(
     ensures { λ r. ⌜ result r (lent (now (connections .exit)) (now (leases .exit)) (now (allowances .exit))) [] (now (relay .exit))
         ≡ shown (done (lent (now (connections .entry)) (now (leases .entry)) (now (allowances .entry))) (closing time c
         (now (relay .entry)))
-        (planClose (lent (now (connections .entry)) (now (leases .entry)) (now (allowances .entry))) c)) ⌝ }
+        (plan (lent (now (connections .entry)) (now (leases .entry)) (now (allowances .entry))) (closing time c (now (relay .entry))))) ⌝ }
 {
-    let answer = sessions::end_if_any(connections, c, relay);
-    lease_writes::release(leases, c);
-    connection_table::clear(connections, c);
+    let answer = closing::close(connections, leases, c, relay);
+    keepalives::sent(
+        connections,
+        time,
+        c,
+        answer.reply,
+        answer.relay,
+        answer.destination,
+    );
     allowance_table::set_clock(allowances, time);
     answer
 }

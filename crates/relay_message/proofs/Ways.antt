@@ -1,6 +1,6 @@
 -- What the checks of a message have shown, and the way out of one that is done, over plain values. Assumes nothing.
 use Prim.Native.Nat.{ℕ, _≤_, max}
-use mathlib.Core.Path.{_≡_, ap}
+use mathlib.Core.Path.{_≡_}
 use mathlib.Core.Bool.{true, false}
 use mathlib.Core.List.{List}
 use native.Mathlib.Omega.{arith}
@@ -10,34 +10,20 @@ use Rattle.octets.proofs.Tests.{either-false}
 use Rattle.svsc.specs.Messages.{decode, fromPeer, longestMessage}
 use Rattle.rules.specs.Sizes.{leastBuffer}
 use Rattle.rules.specs.Tables.{lent, Tables, setClock}
+use Rattle.rules.specs.Keepalives.{answered, stamp}
 use Rattle.rules.specs.Calls.{message}
 use Rattle.rules.specs.Charges.{cost, price, charge}
 use Rattle.rules.specs.Checks.{wrongLengths, notFromPeer, check}
-use Rattle.rules.specs.Plans.{Plan, plan, planMessage}
-use Rattle.rules.specs.Step.{done, step}
+use Rattle.rules.specs.Plans.{plan, planCall, planMessage}
+use Rattle.rules.specs.Step.{step}
 use Rattle.answers.specs.declared.Answer.{Answer}
-use Rattle.answers.specs.Applied.{Handled, handled, applied}
+use Rattle.answers.specs.Applied.{handled, applied}
 use Rattle.answers.specs.Results.{result, shown}
 use Rattle.refusals.specs.Passed.{Payable}
 use Rattle.dispatch.specs.Asked.{Admitted}
 use Rattle.checks.proofs.MessageChecks.{peer-length}
-use Rattle.answers.proofs.Ways.{done-way}
+use Rattle.answers.proofs.Ways.{done-way, marked-done}
 use Rattle.refusals.proofs.Stops.{call-sized, call-known, call-timely, right-lengths, sent-by-peer, payable}
-
-message-done : (tables : Tables) (cs′ ls′ al′ : List ℕ) (time c : ℕ) (m random reply relay reply′ relay′ : List ℕ) (p : Plan) (r : Answer)
-    → handled r cs′ ls′ reply′ relay′ ≡ applied p reply relay
-    → al′ ≡ setClock (charge (tables .allowances) (message time c m random reply relay) (cost (message time c m random reply relay))) time
-    → result r (lent cs′ ls′ al′) reply′ relay′ ≡ shown (done tables (message time c m random reply relay) p)
-unfolding applied done price
-message-done tables cs′ ls′ al′ time c m random reply relay reply′ relay′ p r e h =
-    rw (
-      h,
-      ap (λ (x : Handled). x .answer) e,
-      ap (λ (x : Handled). x .connections) e,
-      ap (λ (x : Handled). x .leases) e,
-      ap (λ (x : Handled). x .reply) e,
-      ap (λ (x : Handled). x .relay) e,
-    )
 
 -- what passed checks show
 module _ (tables : Tables) (time c : ℕ) (m random reply relay : List ℕ) (k : ℕ) (e : k ≡ check tables (message time c m random reply relay)) (z : k ≡ 0) where
@@ -71,11 +57,12 @@ module _ (tables : Tables) (time c : ℕ) (m random reply relay : List ℕ) (k :
   unfolding price cost
   admitted-payable random′ reply′ relay′ = payable tables (message time c m random reply relay) k e z
 
-  pub message-way : (cs′ ls′ al′ reply′ relay′ : List ℕ) (r : Answer)
+  pub message-way : (cs′ cs″ ls′ al′ reply′ relay′ : List ℕ) (r : Answer)
       → handled r cs′ ls′ reply′ relay′ ≡ applied (planMessage tables time c random (decode m)) reply relay
+      → cs″ ≡ stamp (stamp (answered cs′ c) time (r .reply) c) time (r .relay) (r .destination)
       → al′ ≡ setClock (charge (tables .allowances) (message time c m random reply relay) (cost (message time c m random reply relay))) time
-      → result r (lent cs′ ls′ al′) reply′ relay′ ≡ shown (step tables (message time c m random reply relay))
-  unfolding plan
-  message-way cs′ ls′ al′ reply′ relay′ r h p =
-      done-way tables (message time c m random reply relay) k e z (result r (lent cs′ ls′ al′) reply′ relay′)
-      (message-done tables cs′ ls′ al′ time c m random reply relay reply′ relay′ (planMessage tables time c random (decode m)) r h p)
+      → result r (lent cs″ ls′ al′) reply′ relay′ ≡ shown (step tables (message time c m random reply relay))
+  unfolding plan planCall price
+  message-way cs′ cs″ ls′ al′ reply′ relay′ r h s p =
+      done-way tables (message time c m random reply relay) k e z (result r (lent cs″ ls′ al′) reply′ relay′)
+      (marked-done tables (message time c m random reply relay) (planMessage tables time c random (decode m)) cs′ cs″ ls′ al′ reply′ relay′ r h s p)

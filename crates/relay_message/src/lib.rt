@@ -49,6 +49,15 @@ pub extern "C" fn crondelith_message(
         reply,
         relay,
     );
+    keepalives::answered(connections, c);
+    keepalives::sent(
+        connections,
+        time,
+        c,
+        answer.reply,
+        answer.relay,
+        answer.destination,
+    );
     charges::settle(allowances, time, c, m);
     answer
 }

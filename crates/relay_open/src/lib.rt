@@ -6,7 +6,7 @@ ghost use lib.ListN.{length};
 ghost use Rattle.rules.specs.Tables.{lent};
 ghost use Rattle.rules.specs.Sizes.{callCost, leastBuffer};
 ghost use Rattle.rules.specs.Calls.{opening};
-ghost use Rattle.rules.specs.Plans.{planOpen};
+ghost use Rattle.rules.specs.Plans.{plan};
 ghost use Rattle.rules.specs.Step.{step, done};
 ghost use Rattle.answers.specs.Results.{result, shown};
 ghost use Rattle.refusals.specs.Passed.{Payable};
@@ -23,12 +23,21 @@ fn accept(
     requires { ⌜ (Payable (now allowances) time c callCost) × (leastBuffer ≤ length (now reply)) ⌝ }
     ensures { λ r. ⌜ ((ls : List ℕ) → result r (lent (now (connections .exit)) ls (now (allowances .exit))) (now (reply .exit)) []
         ≡ shown (done (lent (now (connections .entry)) ls (now (allowances .entry))) (opening time c (now (reply .entry)))
-        (planOpen (lent (now (connections .entry)) ls (now (allowances .entry))) c))) ⌝ }
+        (plan (lent (now (connections .entry)) ls (now (allowances .entry))) (opening time c (now (reply .entry)))))) ⌝ }
 {
     connection_table::await_version(connections, c);
     charges::pay(allowances, time, c, rules::CALL_COST);
     let sent = svsc_version_writers::svsc_write_version(reply, 1, 0);
-    answers::replied(sent.length as u32)
+    let answer = answers::replied(sent.length as u32);
+    keepalives::sent(
+        connections,
+        time,
+        c,
+        answer.reply,
+        answer.relay,
+        answer.destination,
+    );
+    answer
 }
 
 #[no_mangle]

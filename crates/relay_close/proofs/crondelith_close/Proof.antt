@@ -3,7 +3,6 @@ use native.Mathlib.Omega.{arith}
 use mathlib.Core.Path.{refl}
 use Rattle.rules.specs.Tables.{lent}
 use Rattle.rules.specs.Calls.{closing}
-use Rattle.rules.specs.Plans.{plan}
 use Rattle.refusals.proofs.Stops.{call-known, close-known}
 use Rattle.answers.proofs.Ways.{refused-way, done-way}
 use borrow.Author.Needs.{needs}
@@ -54,7 +53,6 @@ same-length-7 : tie.Need-same-length-7
 same-length-7 c = search needs
 
 returns-2 : tie.Need-returns-2
-unfolding plan
 returns-2 c =
     let a = c .before .before .before .before .before .before .before .before .before .before .before .before .before .before .before .before .before .before .before .before .before .before .args in
     done-way (lent (a .connections .now) (a .leases .now) (a .allowances .now)) (closing (a .time) (a .connection) (a .relay .now)) _ (c .before .before .before .before .before .before .before .before .before .before .before .before .before .before .refusal .ensures (a .relay .now) refl) (c .before .before .before .before .before .before .before .before .before .before .before .before .before .if1 .left) _ (c .before .before .before .before .before .before .before .before .accept .ensures)

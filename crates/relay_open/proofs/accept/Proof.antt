@@ -1,4 +1,4 @@
--- `accept`: the record, the charge and the version message.
+-- `accept`: the record, the charge, the version message and its time.
 use native.Mathlib.Omega.{arith}
 use mathlib.Core.Path.{refl}
 use Rattle.svsc.specs.Messages.{ProtocolVersion, digits, encode, wellFormed}
@@ -23,6 +23,9 @@ cast-replied c = omega (arith, written-short _ _ _ (c .before .before .before .s
 replied-requires : tie.Need-replied-requires
 replied-requires c κs = search needs
 
+sent-requires : tie.Need-sent-requires
+sent-requires c κs = search needs
+
 same-length : tie.Need-same-length
 same-length c = search needs
 
@@ -35,9 +38,10 @@ same-length-3 c = search needs
 returns : tie.Need-returns
 unfolding wellFormed encode digits
 returns c ls =
-    let a = c .before .before .before .before .before .before .before .before .before .before .before .before .before .before .before .before .before .args in
-    open-done (a .connections .now) ls (a .allowances .now) (a .reply .now) _ _ _ (a .time) (a .c) _ _ (c .before .before .before .before .before .before .before .before .before .before .before .before .await-version .ensures) (c .before .before .before .before .before .before .before .before .pay .ensures)
-    (sent-length (ProtocolVersion 1 0) (c .before .before .before .before .before .before .before .before .before .before .before .before .before .before .before .before .before .args .reply .now) _ (c .before .before .before .before .svsc-write-version .ensures) refl (omega (arith, c .before .before .before .before .before .before .before .before .before .before .before .before .before .before .before .before .before .pre .1))) (sent-buffer (ProtocolVersion 1 0) (c .before .before .before .before .before .before .before .before .before .before .before .before .before .before .before .before .before .args .reply .now) _ (c .before .before .before .before .svsc-write-version .ensures) refl (omega (arith, c .before .before .before .before .before .before .before .before .before .before .before .before .before .before .before .before .before .pre .1))) (c .replied .ensures)
+    let a = c .before .before .before .before .before .before .before .before .before .before .before .before .before .before .before .before .before .before .before .before .before .args in
+    open-done (a .connections .now) ls (a .allowances .now) (a .reply .now) _ _ _ _ (a .time) (a .c) _ _ (c .before .before .before .before .before .before .before .before .before .before .before .before .before .before .before .before .await-version .ensures)
+    (c .before .before .sent .ensures) (c .before .before .before .before .before .before .before .before .before .before .before .before .pay .ensures)
+    (sent-length (ProtocolVersion 1 0) (a .reply .now) _ (c .before .before .before .before .before .before .before .before .svsc-write-version .ensures) refl (omega (arith, c .before .before .before .before .before .before .before .before .before .before .before .before .before .before .before .before .before .before .before .before .before .pre .1))) (sent-buffer (ProtocolVersion 1 0) (a .reply .now) _ (c .before .before .before .before .before .before .before .before .svsc-write-version .ensures) refl (omega (arith, c .before .before .before .before .before .before .before .before .before .before .before .before .before .before .before .before .before .before .before .before .before .pre .1))) (c .before .before .before .before .replied .ensures)
 
 pub accept-spec : {M : Type 1} → statement M
 accept-spec =
@@ -48,6 +52,7 @@ accept-spec =
     svsc-write-version-requires
     cast-replied
     replied-requires
+    sent-requires
     same-length
     same-length-2
     same-length-3

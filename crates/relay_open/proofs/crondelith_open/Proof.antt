@@ -3,7 +3,6 @@ use native.Mathlib.Omega.{arith}
 use mathlib.Core.Path.{refl}
 use Rattle.rules.specs.Tables.{lent}
 use Rattle.rules.specs.Calls.{opening}
-use Rattle.rules.specs.Plans.{plan}
 use Rattle.refusals.proofs.Stops.{call-known, open-known}
 use Rattle.answers.proofs.Ways.{refused-way, done-way}
 use borrow.Author.Needs.{needs}
@@ -54,7 +53,6 @@ same-length-7 : tie.Need-same-length-7
 same-length-7 c = search needs
 
 returns-2 : tie.Need-returns-2
-unfolding plan
 returns-2 c =
     let a = c .before .before .before .before .before .before .before .before .before .before .before .before .before .before .before .before .before .before .before .args in
     done-way (lent (a .connections .now) (a .leases .now) (a .allowances .now)) (opening (a .time) (a .connection) (a .reply .now)) _ (c .before .before .before .before .before .before .before .before .before .before .before .refusal .ensures (a .reply .now) refl) (c .before .before .before .before .before .before .before .before .before .before .if1 .left) _ (c .before .before .before .before .before .before .accept .ensures (a .leases .now))
