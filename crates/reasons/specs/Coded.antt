@@ -1,14 +1,9 @@
 -- Reasons as C has them: the rules' reasons as numbers.
-use Prim.Native.Nat.{ℕ, _<_}
+use Prim.Native.Nat.{ℕ}
 use mathlib.Core.Path.{_≡_}
 use mathlib.Core.Logic.{_↔_}
-use mathlib.Core.Bool.{true}
 use mathlib.Core.Option.{Option, none, some}
-use mathlib.Core.List.{List}
 use lib.IntN.{ℤ, pos}
-use lib.ListN.{length}
-use Rattle.svsc.specs.Messages.{fromPeer}
-use Rattle.rules.specs.Sizes.{connectionCount, leasesSize, randomBytes}
 use Rattle.rules.specs.Leases.{LeaseDecision}
 use Rattle.rules.specs.Sessions.{EstablishDecision}
 use Rattle.rules.specs.Reasons as rules
@@ -56,10 +51,3 @@ pub record Tells (x : rules.Reason) (r : Reason) : Type 0 where
   pub other : (r .request ≡ 0) ↔ ((x .decided ≡ rules.undecided) × (r .condition ≡ 0))
   pub charged : (r .charged ≡ 1) ↔ (x .headroom ≡ some (r .headroom))
   pub free : (r .charged ≡ 0) ↔ ((x .headroom ≡ none) × (r .headroom ≡ pos 0))
-
--- what is known of a message that has passed checks 1 to 8
-pub record Judged (ls : List ℕ) (c : ℕ) (m random : List ℕ) : Type 0 where
-  pub leases : length ls ≡ leasesSize
-  pub known : c < connectionCount
-  pub random-size : length random ≡ randomBytes
-  pub from-peer : fromPeer m ≡ true

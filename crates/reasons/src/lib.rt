@@ -1,21 +1,13 @@
-// Why a call is answered as it is: the check that stops it, what decided a done lease or establish, and its headroom. These functions
-// only read, and are lent no buffer: of the reply and the relay buffer they are told the lengths.
+// What the functions that explain calls have in common: a reason as C has it, with and without a headroom. Each call has a crate of its own
+// for its function, explain_open and so on; they only read, and are lent no buffer: of the reply and the relay buffer they are told the
+// lengths.
 ghost use mathlib.Core.Path.{_≡_};
 ghost use mathlib.Core.Bool.{not, _&&_};
-ghost use mathlib.Core.List.{List};
 ghost use mathlib.Core.Option.{none, some};
-ghost use Prim.Native.Nat.{ℕ, _+_, _^_, _<_};
+ghost use Prim.Native.Nat.{_+_, _^_, _<_};
 ghost use lib.Dec.{eqb};
 ghost use lib.IntN.{pos, _-ℤ_};
-ghost use lib.ListN.{length};
-ghost use Rattle.rules.specs.Tables.{lent};
-ghost use Rattle.rules.specs.Calls.{opening, message, closing};
-ghost use Rattle.rules.specs.Sizes.{allowancesSize};
-ghost use Rattle.rules.specs.Checks.{precheck, check};
-ghost use Rattle.rules.specs.Reasons.{explain};
-ghost use Rattle.reasons.specs.Coded.{reasonOf, coded, Judged};
-
-mod decisions; // what decided a message
+ghost use Rattle.reasons.specs.Coded.{reasonOf};
 
 // A reason, for C: the check or 0; what a done call asked for, 1 a lease or 2 a session, and what decided it; 1 where there is a
 // headroom, and the headroom.
@@ -40,14 +32,14 @@ pub struct Named {
 }
 
 // Whether one of checks 1 to 8 stops a call that is answered with this number.
-fn is_stopped(check: u32) -> bool
+pub fn is_stopped(check: u32) -> bool
     ensures { λ r. ⌜ r ≡ (not (eqb check 0) && not (eqb check 9)) ⌝ }
 {
     (check != 0) & (check != 9)
 }
 
 // Nothing has been decided.
-fn nothing_named() -> Named
+pub fn nothing_named() -> Named
     ensures { λ r. ⌜ r ≡ record { request = 0; condition = 0 } ⌝ }
 {
     Named {
@@ -57,7 +49,7 @@ fn nothing_named() -> Named
 }
 
 // The reason of a call that has no headroom.
-fn without_headroom(check: u32, named: Named) -> Reason
+pub fn without_headroom(check: u32, named: Named) -> Reason
     ensures { λ r. ⌜ r ≡ reasonOf check named none ⌝ }
 {
     Reason {
@@ -77,7 +69,7 @@ fn difference(level: u64, cost: u64) -> i64
 }
 
 // The reason of a call that costs so much at such a level.
-fn with_headroom(check: u32, named: Named, level: u64, cost: u64) -> Reason
+pub fn with_headroom(check: u32, named: Named, level: u64, cost: u64) -> Reason
     requires { ⌜ level + cost < 2 ^ 63 ⌝ }
     ensures { λ r. ⌜ r ≡ reasonOf check named (some (pos level -ℤ pos cost)) ⌝ }
 {
@@ -89,128 +81,4 @@ fn with_headroom(check: u32, named: Named, level: u64, cost: u64) -> Reason
         charged: 1,
         headroom,
     }
-}
-
-// The reason of a message that has passed checks 1 to 8, which is answered with this number.
-fn judged(
-    connections: &[u8],
-    leases: &[u8],
-    allowances: &[u8],
-    time: u64,
-    c: u8,
-    m: &[u8],
-    random: &[u8],
-    number: u32,
-) -> Reason
-    requires { ⌜ (Judged (now leases) c (now m) (now random)) × (length (now allowances) ≡ allowancesSize) ⌝ }
-    ensures { λ r. ⌜ ((reply relay : List ℕ)
-        → number ≡ check (lent (now (connections .entry)) (now (leases .entry)) (now (allowances .entry)))
-        (message time c (now (m .entry)) (now (random .entry)) reply relay)
-        → precheck (lent (now (connections .entry)) (now (leases .entry)) (now (allowances .entry)))
-        (message time c (now (m .entry)) (now (random .entry)) reply relay) ≡ 0
-        → r ≡ coded (explain (lent (now (connections .entry)) (now (leases .entry)) (now (allowances .entry)))
-        (message time c (now (m .entry)) (now (random .entry)) reply relay))) ⌝ }
-{
-    let named = decisions::decided(connections, leases, time, c, m, random, number);
-    if octets::byte(m, 0) == 9 {
-        return without_headroom(number, named);
-    }
-    let level = allowance_table::level(allowances, lease_table::partner_of(c), time);
-    with_headroom(number, named, level, checks::cost(m))
-}
-
-#[no_mangle]
-pub extern "C" fn crondelith_explain_open(
-    connections: &[u8],
-    leases: &[u8],
-    allowances: &[u8],
-    time: u64,
-    connection: u64,
-    reply_length: u64,
-) -> Reason
-    ensures { λ r. ⌜ ((reply : List ℕ) → length reply ≡ «reply_length»
-        → r ≡ coded (explain (lent (now (connections .entry)) (now (leases .entry)) (now (allowances .entry)))
-        (opening time connection reply))) ⌝ }
-{
-    let check = refusals::open::refusal(
-        connections,
-        leases,
-        allowances,
-        time,
-        connection,
-        reply_length as usize,
-    );
-    let nothing = nothing_named();
-    if is_stopped(check) {
-        return without_headroom(check, nothing);
-    }
-    let partner = lease_table::partner_of(connection as u8);
-    let level = allowance_table::level(allowances, partner, time);
-    with_headroom(check, nothing, level, rules::CALL_COST)
-}
-
-#[no_mangle]
-pub extern "C" fn crondelith_explain_message(
-    connections: &[u8],
-    leases: &[u8],
-    allowances: &[u8],
-    time: u64,
-    connection: u64,
-    m: &[u8],
-    random: &[u8],
-    reply_length: u64,
-    relay_length: u64,
-) -> Reason
-    ensures { λ r. ⌜ ((reply relay : List ℕ) → length reply ≡ «reply_length» → length relay ≡ «relay_length»
-        → r ≡ coded (explain (lent (now (connections .entry)) (now (leases .entry)) (now (allowances .entry)))
-        (message time connection (now (m .entry)) (now (random .entry)) reply relay))) ⌝ }
-{
-    let check = message_refusal::refusal(
-        connections,
-        leases,
-        allowances,
-        time,
-        connection,
-        m,
-        random,
-        reply_length as usize,
-        relay_length as usize,
-    );
-    if is_stopped(check) {
-        return without_headroom(check, nothing_named());
-    }
-    judged(
-        connections,
-        leases,
-        allowances,
-        time,
-        connection as u8,
-        m,
-        random,
-        check,
-    )
-}
-
-#[no_mangle]
-pub extern "C" fn crondelith_explain_close(
-    connections: &[u8],
-    leases: &[u8],
-    allowances: &[u8],
-    time: u64,
-    connection: u64,
-    relay_length: u64,
-) -> Reason
-    ensures { λ r. ⌜ ((relay : List ℕ) → length relay ≡ «relay_length»
-        → r ≡ coded (explain (lent (now (connections .entry)) (now (leases .entry)) (now (allowances .entry)))
-        (closing time connection relay))) ⌝ }
-{
-    let check = refusals::close::refusal(
-        connections,
-        leases,
-        allowances,
-        time,
-        connection,
-        relay_length as usize,
-    );
-    without_headroom(check, nothing_named())
 }

@@ -3,10 +3,10 @@ use mathlib.Core.Path.{refl, _∙_}
 use Rattle.rules.specs.Tables.{lent}
 use Rattle.rules.specs.Calls.{closing}
 use Rattle.rules.specs.Reasons.{asked}
 use Rattle.reasons.proofs.Ways.{nothing-asked, free-way}
 use borrow.Author.Needs.{needs}
-use Rattle.reasons.proofs.crondelith_explain_close.Statement.{statement}
-use Rattle.reasons.proofs.crondelith_explain_close.Tie as tie
+use Rattle.explain_close.proofs.crondelith_explain_close.Statement.{statement}
+use Rattle.explain_close.proofs.crondelith_explain_close.Tie as tie
 
 refusal-requires : tie.Need-refusal-requires
 refusal-requires c κs = search needs

@@ -6,10 +6,11 @@ use Rattle.rules.specs.Tables.{lent, bucketOf}
 use Rattle.rules.specs.Calls.{opening}
 use Rattle.rules.specs.Charges.{cost, price, callerLevel}
 use Rattle.rules.specs.Reasons.{asked}
-use Rattle.reasons.proofs.Ways.{nothing-asked, open-passed, first-eight-passed, stopped-way, charged-way}
+use Rattle.reasons.proofs.Ways.{nothing-asked, first-eight-passed, stopped-way, charged-way}
+use Rattle.explain_open.proofs.Ways.{open-passed}
 use borrow.Author.Needs.{needs}
-use Rattle.reasons.proofs.crondelith_explain_open.Statement.{statement}
-use Rattle.reasons.proofs.crondelith_explain_open.Tie as tie
+use Rattle.explain_open.proofs.crondelith_explain_open.Statement.{statement}
+use Rattle.explain_open.proofs.crondelith_explain_open.Tie as tie
 
 refusal-requires : tie.Need-refusal-requires
 refusal-requires c κs = search needs

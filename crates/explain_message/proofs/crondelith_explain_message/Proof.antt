@@ -3,10 +3,11 @@ use native.Mathlib.Omega.{arith}
 use mathlib.Core.Path.{sym, _∙_}
 use Rattle.rules.specs.Tables.{lent}
 use Rattle.rules.specs.Calls.{message}
-use Rattle.reasons.proofs.Ways.{first-eight-passed, stopped-way, message-passed}
+use Rattle.reasons.proofs.Ways.{first-eight-passed, stopped-way}
+use Rattle.explain_message.proofs.Ways.{message-passed}
 use borrow.Author.Needs.{needs}
-use Rattle.reasons.proofs.crondelith_explain_message.Statement.{statement}
-use Rattle.reasons.proofs.crondelith_explain_message.Tie as tie
+use Rattle.explain_message.proofs.crondelith_explain_message.Statement.{statement}
+use Rattle.explain_message.proofs.crondelith_explain_message.Tie as tie
 
 refusal-requires : tie.Need-refusal-requires
 refusal-requires c κs = search needs

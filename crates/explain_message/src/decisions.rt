@@ -9,9 +9,10 @@ ghost use Rattle.rules.specs.Calls.{message};
 ghost use Rattle.rules.specs.Reasons.{conditionOf, statusOf, undecided, asked};
 ghost use Rattle.leases.specs.Leases.{meaning};
 ghost use Rattle.statuses.specs.Decisions.{decidedAs};
-ghost use Rattle.reasons.specs.Coded.{named, Judged};
-use crate::Named;
+ghost use Rattle.reasons.specs.Coded.{named};
+ghost use Rattle.explain_message.specs.Asked.{Judged};
 use leases::LeaseDecision;
+use reasons::Named;
 use statuses::EstablishDecision;
 
 // The number of the first condition that fails, in 01's order; 0 if all hold.
@@ -53,23 +54,23 @@ pub fn decided(
         (now (leases .entry)) al) (message time c (now (m .entry)) (now (random .entry)) reply relay) else undecided)) ⌝ }
 {
     if check != 0 {
-        return crate::nothing_named();
+        return reasons::nothing_named();
     }
     let kind = octets::byte(m, 0);
     if kind == 2 {
         let cookie = octets::part(m, 2, svsc::COOKIE);
         let decision = leases::decide_lease(connections, leases, time, c, random, cookie);
         return Named {
-            request: crate::LEASE,
+            request: reasons::LEASE,
             condition: condition_of(decision),
         };
     }
     if kind == 6 {
         let decision = statuses::decide(connections, leases, time, c, octets::read32(m, 1));
         return Named {
-            request: crate::ESTABLISH,
+            request: reasons::ESTABLISH,
             condition: status_of(decision),
         };
     }
-    crate::nothing_named()
+    reasons::nothing_named()
 }

@@ -1,9 +1,9 @@
 -- `condition_of`: a number for each case.
 use borrow.Author.Needs.{needs}
-use Rattle.reasons.proofs.decisions.condition_of.Statement.{statement}
-use Rattle.reasons.proofs.decisions.condition_of.Tie as tie
-use Rattle.reasons.proofs.decisions.condition_of.Reads as reads
-use Rattle.reasons.proofs.decisions.condition_of.Lts as lts
+use Rattle.explain_message.proofs.decisions.condition_of.Statement.{statement}
+use Rattle.explain_message.proofs.decisions.condition_of.Tie as tie
+use Rattle.explain_message.proofs.decisions.condition_of.Reads as reads
+use Rattle.explain_message.proofs.decisions.condition_of.Lts as lts
 
 enum-told : tie.Need-enum-told
 enum-told c = search needs

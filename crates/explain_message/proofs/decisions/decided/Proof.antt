@@ -4,10 +4,10 @@ use mathlib.Core.Path.{ap, _∙_}
 use borrow.Author.Tests.{eq-eqb, ne-eqb}
 use Rattle.rules.specs.Reasons.{conditionOf, statusOf}
 use Rattle.rules.proofs.Messages.{establish-length}
-use Rattle.reasons.proofs.Ways.{kind-is, lease-way, establish-way, other-way}
+use Rattle.explain_message.proofs.Ways.{kind-is, lease-way, establish-way, other-way}
 use borrow.Author.Needs.{needs}
-use Rattle.reasons.proofs.decisions.decided.Statement.{statement}
-use Rattle.reasons.proofs.decisions.decided.Tie as tie
+use Rattle.explain_message.proofs.decisions.decided.Statement.{statement}
+use Rattle.explain_message.proofs.decisions.decided.Tie as tie
 
 nothing-named-requires : tie.Need-nothing-named-requires
 nothing-named-requires c κs = search needs

@@ -7,10 +7,11 @@ use Rattle.rules.specs.Tables.{lent, bucketOf}
 use Rattle.rules.specs.Calls.{message}
 use Rattle.rules.specs.Charges.{price, callerLevel}
 use Rattle.checks.proofs.MessageChecks.{peer-length}
-use Rattle.reasons.proofs.Ways.{message-free, message-charged, cost-most, free-way, charged-way}
+use Rattle.reasons.proofs.Ways.{free-way, charged-way}
+use Rattle.explain_message.proofs.Ways.{message-free, message-charged, cost-most}
 use borrow.Author.Needs.{needs}
-use Rattle.reasons.proofs.judged.Statement.{statement}
-use Rattle.reasons.proofs.judged.Tie as tie
+use Rattle.explain_message.proofs.judged.Statement.{statement}
+use Rattle.explain_message.proofs.judged.Tie as tie
 
 decided-requires : tie.Need-decided-requires
 decided-requires c κs = search needs
