@@ -4,10 +4,11 @@ use Rattle.svsc.specs.Messages.{digits, encode, isDigit, areDigits, digitsAt, i
 use Rattle.allowance.specs.Bucket.{levelNow}
 use Rattle.allowance.specs.Meter.{after, entry, history}
 use Rattle.rules.specs.Searches.{firstFrom, anyFrom}
-use Rattle.rules.specs.Tables.{state, inSession, hasSession, expiry, idOf, cookieOf, live, liveWithId, holderCounts, bucketOf, clock, bucketBytes, records, fresh, sized}
+use Rattle.rules.specs.Tables.{state, inSession, hasSession, isUnanswered, lastSent, keepaliveSent, expiry, idOf, cookieOf, live, liveWithId, holderCounts, bucketOf, clock, bucketBytes, records, fresh, sized}
 use Rattle.rules.specs.Leases.{leaseEnd, candidate, idTaken, firstFree, holdsRow, isEarlier, isEarliest, spareRow, cookieTaken, hasItsId, idElsewhere, renewable, rowToRenew, renewOrGrant, decideLease, grant, renew, rowToExtend, releaseFrom, release}
 use Rattle.rules.specs.Sessions.{clear, await, rowOfId, decideEstablish, join, establish, leave, endSession}
-use Rattle.rules.specs.Plans.{planOpen, planVersionAnswer, planLease, planExtension, planEstablish, planEnd, planData, planClose, planMessage, plan}
+use Rattle.rules.specs.Keepalives.{isDead, isDue, ask, answered, stamp}
+use Rattle.rules.specs.Plans.{planOpen, planVersionAnswer, planLease, planExtension, planEstablish, planEnd, planData, planClose, planMessage, planKeepalive, planCall, plan}
 use Rattle.rules.specs.Charges.{cost, price, callerLevel, charge}
 use Rattle.rules.specs.Checks.{wrongTime, wrongState, wrongLengths, notFromPeer, notPermitted, noSession, aboveLevel, firstEight, checks, firstApplying, precheck, check, checkStart}
 use Rattle.rules.specs.Step.{done, step, start}
@@ -21,7 +22,7 @@ unfolding digits encode isDigit areDigits digitsAt isVersion readings decode fro
 messages = tt
 
 unfoldable pub tables : Unit {0}
-unfolding state inSession hasSession expiry idOf cookieOf live liveWithId holderCounts bucketOf clock bucketBytes records fresh sized
+unfolding state inSession hasSession isUnanswered lastSent keepaliveSent expiry idOf cookieOf live liveWithId holderCounts bucketOf clock bucketBytes records fresh sized
 tables = tt
 
 unfoldable pub leases : Unit {0}
@@ -32,8 +33,12 @@ unfoldable pub sessions : Unit {0}
 unfolding clear await rowOfId decideEstablish join establish leave endSession
 sessions = tt
 
+unfoldable pub keepalives : Unit {0}
+unfolding isDead isDue ask answered stamp
+keepalives = tt
+
 unfoldable pub plans : Unit {0}
-unfolding planOpen planVersionAnswer planLease planExtension planEstablish planEnd planData planClose planMessage plan
+unfolding planOpen planVersionAnswer planLease planExtension planEstablish planEnd planData planClose planMessage planKeepalive planCall plan
 plans = tt
 
 unfoldable pub checked : Unit {0}
@@ -45,5 +50,5 @@ unfolding levelNow cost price callerLevel charge done step start after entry his
 calls = tt
 
 unfoldable pub computed : Unit {0}
-unfolding bytes messages tables leases sessions plans checked calls
+unfolding bytes messages tables leases sessions keepalives plans checked calls
 computed = tt

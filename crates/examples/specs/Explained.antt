@@ -7,7 +7,7 @@ use lib.IntN.{ℤ, pos, negsuc}
 use Rattle.octets.specs.Octets.{bigEndian}
 use Rattle.rules.specs.Sizes.{rowCount}
 use Rattle.rules.specs.Tables.{Tables, lent, records, fresh}
-use Rattle.rules.specs.Calls.{Call, opening, message, closing}
+use Rattle.rules.specs.Calls.{Call, opening, message, closing, keepalive}
 use Rattle.rules.specs.Reasons.{asked, decided, headroom, explain}
 use Rattle.reasons.specs.declared.Reason.{Reason}
 use Rattle.reasons.specs.Coded.{coded}
@@ -75,6 +75,9 @@ explained =
     -- Free calls have no headroom, and neither has what an earlier check stops.
     ∷ row joined (asks 0 nines (9 ∷ [])) 0 0 0 0 (pos 0)
     ∷ row joined (closing 100 0 buffer) 0 0 0 0 (pos 0)
+    ∷ row joined (keepalive 100 0 buffer buffer) 0 0 0 0 (pos 0)
+    ∷ row joined (keepalive 100 2 buffer buffer) 4 0 0 0 (pos 0)
+    ∷ row joined (keepalive 100 0 (replicate 63 0) buffer) 5 0 0 0 (pos 0)
     ∷ row joined (asks 0 nines []) 6 0 0 0 (pos 0)
     ∷ row leased (asks 0 nines (11 ∷ [])) 8 0 0 0 (pos 0)
     ∷ []

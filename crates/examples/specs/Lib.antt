@@ -1,4 +1,3 @@
 pub mod Computed
 pub mod Examples
 pub mod Explained
-pub mod Renewals

@@ -1,0 +1,1 @@
+// Renewals worked out by hand: definitions and the laws of their tables. There is no code.
