@@ -1,7 +1,7 @@
 -- The named sizes are 01's numbers. Assumes nothing.
 use Prim.Native.Nat.{_^_}
 use mathlib.Core.Path.{_≡_, refl}
-use Rattle.rules.specs.Sizes.{partners, connectionsPerPartner, rowsPerPartner, connectionCount, rowCount, connectionBytes, leaseBytes, allowanceBytes, connectionsSize, leasesSize, allowancesSize, nobody, timeLimit, randomBytes, leastBuffer, callCost, retryAfter, leaseTerm, candidateCount, candidateBytes, idLimit}
+use Rattle.rules.specs.Sizes.{partners, connectionsPerPartner, rowsPerPartner, connectionCount, rowCount, connectionBytes, leaseBytes, allowanceBytes, connectionsSize, leasesSize, allowancesSize, nobody, timeLimit, randomBytes, leastBuffer, callCost, retryAfter, leaseTerm, candidateCount, candidateBytes, idLimit, timeBytes, keepaliveTimeout, answerTimeout}
 use Rattle.rules.specs.Tables.{closed, awaiting, opened}
 
 -- "a table isn't 4,096, 5,120 or 144 bytes"
@@ -31,3 +31,7 @@ pub rates :
     (connectionsPerPartner ≡ 8) × (rowsPerPartner ≡ 16) × (callCost ≡ 32) × (retryAfter ≡ 2) × (leaseTerm ≡ 3600)
     × (candidateCount ≡ 14) × (candidateBytes ≡ 4)
 rates = (refl, refl, refl, refl, refl, refl, refl)
+
+-- 02, Item 3: "a KeepaliveTimeout of 30 seconds"; "for 60 seconds or more"; "4-8", "9-13"
+pub keepalives : (keepaliveTimeout ≡ 30) × (answerTimeout ≡ 60) × (timeBytes ≡ 5)
+keepalives = (refl, refl, refl)

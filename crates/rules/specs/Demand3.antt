@@ -16,7 +16,7 @@ use Rattle.rules.specs.Runs.{relayMeter, history}
 pub record RelayDemand3 : Type 0 where
   -- What is compared with the level, and what is charged, is 01's cost, of every call on any tables.
   pub price-is-cost : (tables : Tables) (call : Call) → price tables call ≡ cost call
-  -- "A run is a fresh start answered with 0 and then any list of opens, messages and closes, refused ones included."
+  -- "A run is a fresh start answered with 0 and then any list of opens, messages and closes, refused ones included.", and of keepalives
   pub every-run : (lent : Tables) (now : ℕ) → start lent now .answer .number ≡ 0 → (calls : List Call)
       → Claim relayMeter (start lent now .tables) now calls
   -- The bound holds of any calls, whatever the tables held before them.
