@@ -45,7 +45,7 @@ module _ (cs : List ℕ) (c : ℕ) where
 
   pub changed-answered : ChangedOnly (InUnanswered c) cs (answered cs c)
   unfolding answered
-  changed-answered = changed-unanswered 0
+  changed-answered = changed-unanswered _
 
 pub changed-ask : (cs : List ℕ) (now c : ℕ) → ChangedOnly (λ i. InUnanswered c i ⊎ InKeepaliveSent c i) cs (ask cs now c)
 unfolding ask
