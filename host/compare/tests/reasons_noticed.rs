@@ -178,18 +178,13 @@ fn partner(call: &Call) -> usize {
 }
 
 fn cut_connection(kind: &mut Kind) {
-    if let Kind::Open { connection, .. } | Kind::Message { connection, .. } | Kind::Close { connection, .. } = kind {
+    if let Some(connection) = kind.connection_mut() {
         *connection &= 0xffff_ffff;
     }
 }
 
 fn cut_lengths(kind: &mut Kind) {
-    let cut = |length: &mut usize| *length &= 0xffff_ffff;
-    match kind {
-        Kind::Fresh => {}
-        Kind::Open { reply: length, .. } | Kind::Close { relay: length, .. } => cut(length),
-        Kind::Message { reply, relay, .. } => [reply, relay].into_iter().for_each(cut),
-    }
+    kind.rooms_mut().into_iter().for_each(|length| *length &= 0xffff_ffff);
 }
 
 fn hold_message(kind: &mut Kind) {
