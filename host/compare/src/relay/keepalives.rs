@@ -104,8 +104,8 @@ const WITHOUT_REPLY: &[&str] = &[forms::TYPES[1], forms::TYPES[9], forms::TYPES[
 /// Checks that a message is refused by whose connection has a keepalive unanswered.
 const REFUSALS: [&str; 10] = ["", "1", "2", "3", "4", "5", "6", "7", "8", "9"];
 
-/// What tables from anywhere must have reached.
-pub const ON_ANY_TABLES: [Outcomes; 15] = [
+/// What calls on tables from anywhere must have reached.
+pub const CALLS_ON_ANY_TABLES: [Outcomes; 8] = [
     ("closed in session", CLOSED),
     ("closed, no session", CLOSED),
     ("closed, awaiting", CLOSED),
@@ -114,6 +114,10 @@ pub const ON_ANY_TABLES: [Outcomes; 15] = [
     ("asked, awaiting", ASKED),
     ("not yet closed", NOT_YET_CLOSED),
     ("not yet asked", NOT_YET_ASKED),
+];
+
+/// What messages there must have reached, and other calls.
+pub const SENT_ON_ANY_TABLES: [Outcomes; 7] = [
     ("answered by", FROM_PEERS),
     ("another byte 2 cleared by", FROM_PEERS),
     ("unanswered, refused with", &["2", "5", "6", "7", "8", "9"]),

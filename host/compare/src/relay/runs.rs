@@ -2,11 +2,12 @@
 
 use std::collections::HashSet;
 
-use engine::relay::{ALLOWANCES, CONNECTIONS, LEASES};
+use engine::relay::{Answer, ALLOWANCES, CONNECTIONS, LEASES};
 use model::{Relay, Tables, PARTNERS, TIME_LIMIT};
 
 use super::boundary::{Boundary, Call, Kind, Lent};
 use super::calls::{connections_of, Calls, LONG_DATA, SHORT_DATA};
+use super::connection_monitor::ConnectionMonitor;
 use super::monitor::{Entry, Fault, Monitor};
 
 /// How the clock goes between two calls.
@@ -115,21 +116,44 @@ fn any_call_of(calls: &mut Calls, relay: &Relay, now: u64, partner: usize, data:
     calls.suitable(relay, now, connection, data)
 }
 
-/// Makes a run of one relay by itself, followed by the monitor.
+/// Makes a run of one relay by itself, followed by the monitor of the allowances.
 pub fn follow(subject: &impl Boundary, calls: &mut Calls, length: usize) -> Result<(), Fault> {
+    let mut monitor: Option<Monitor> = None;
+    run_alone(subject, calls, length, |before, call, answer, after| match &mut monitor {
+        None => {
+            monitor = Some(Monitor::new(call.now));
+            Ok(())
+        }
+        Some(monitor) => {
+            monitor.record(&Entry::new(before, call, answer.number))?;
+            monitor.check_levels(after)
+        }
+    })
+}
+
+/// Makes a run of one relay by itself, followed by the monitor of dead connections.
+pub fn follow_connections(subject: &impl Boundary, calls: &mut Calls, length: usize) -> Result<(), Fault> {
+    let mut monitor = ConnectionMonitor::default();
+    run_alone(subject, calls, length, |_, call, answer, _| monitor.record(call, answer))
+}
+
+/// Makes a fresh start and then so many calls of one relay, and shows each to the monitor, with the relay before and after.
+fn run_alone(
+    subject: &impl Boundary,
+    calls: &mut Calls,
+    length: usize,
+    mut show: impl FnMut(&Relay, &Call, &Answer, &Relay) -> Result<(), Fault>,
+) -> Result<(), Fault> {
     let run = Run::any(calls);
-    let (start, mut tables) = run.start(calls);
-    let mut lent = Lent::new(&tables, &start);
-    subject.call(&start, &mut lent);
-    let mut monitor = Monitor::new(start.now);
-    for _ in 0..length {
-        tables = lent.tables();
-        let relay = decoded(&tables);
-        let call = run.next(calls, &relay);
-        lent = Lent::new(&tables, &call);
+    let (mut call, mut tables) = run.start(calls);
+    for _ in 0..=length {
+        let before = decoded(&tables);
+        let mut lent = Lent::new(&tables, &call);
         let answer = subject.call(&call, &mut lent);
-        monitor.record(&Entry::new(&relay, &call, answer.number))?;
-        monitor.check_levels(&decoded(&lent.tables()))?;
+        tables = lent.tables();
+        let after = decoded(&tables);
+        show(&before, &call, &answer, &after)?;
+        call = run.next(calls, &after);
     }
     Ok(())
 }

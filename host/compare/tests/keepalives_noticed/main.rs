@@ -7,7 +7,12 @@ mod judged;
 mod noted;
 
 use compare::difference::Difference;
-use compare::relay::compared;
+use compare::relay::boundary::{Boundary, Proved, Second};
+use compare::relay::calls::Calls;
+use compare::relay::compared::{self, CALLS_OF_EACH, RUNS};
+use compare::relay::monitor::Fault;
+use compare::relay::runs::follow_connections;
+use compare::{amount, forms};
 use done::{AFTER_A_REFUSAL, WRONG_ASKED, WRONG_CLOSED, WRONG_COSTS, WRONG_ELSEWHERE};
 use finding::{Finding, RIGHT};
 use judged::{WRONG_BYTES, WRONG_LIMITS, WRONG_STATES, WRONG_TIMES};
@@ -25,6 +30,38 @@ fn assert_noticed<T: Copy>(overlooked: &[Overlooked<T>], finding: fn(T) -> Findi
             compared::runs(&finding(instead)).expect_err(what);
         }
     }
+}
+
+/// Follows runs of the relay by itself until the monitor of dead connections, which knows calls and answers only, finds a
+/// fault.
+fn follow_runs(subject: &impl Boundary) -> Result<(), Fault> {
+    let mut random = amount::random();
+    let pool = forms::pool(&mut random);
+    let mut calls = Calls { random: &mut random, pool: &pool };
+    (0..amount::rounds(RUNS)).try_for_each(|_| follow_connections(subject, &mut calls, CALLS_OF_EACH))
+}
+
+/// The monitor alone must notice those that runs come to.
+fn assert_found<T: Copy>(overlooked: &[Overlooked<T>], finding: fn(T) -> Finding) {
+    for &(what, _, instead) in overlooked.iter().filter(|(_, in_runs, _)| *in_runs) {
+        follow_runs(&finding(instead)).expect_err(what);
+    }
+}
+
+#[test]
+fn the_monitor_accepts_what_is_right() -> Result<(), Fault> {
+    follow_runs(&Proved)?;
+    follow_runs(&Second)?;
+    follow_runs(&RIGHT)
+}
+
+#[test]
+fn the_monitor_alone_notices_wrong_answers() {
+    assert_found(&WRONG_LIMITS, |judge| Finding { judge, ..RIGHT });
+    assert_found(&WRONG_BYTES, |judge| Finding { judge, ..RIGHT });
+    assert_found(&WRONG_STATES, |judge| Finding { judge, ..RIGHT });
+    assert_found(&FORGOTTEN, |stamp| Finding { stamp, ..RIGHT });
+    assert_found(&WRONG_ANSWERS, |clear| Finding { clear, ..RIGHT });
 }
 
 #[test]
