@@ -60,12 +60,15 @@ fn tables() -> Tables {
     relay.encode()
 }
 
+type Table = fn(&mut Tables) -> &mut Vec<u8>;
+type Size = fn(usize) -> usize;
+
 /// The tables, one of them with another size.
 fn of_other_sizes() -> Vec<Tables> {
-    let all: [fn(&mut Tables) -> &mut Vec<u8>; 3] =
+    let all: [Table; 3] =
         [|tables| &mut tables.connections, |tables| &mut tables.leases, |tables| &mut tables.allowances];
-    let sizes: [fn(usize) -> usize; 4] = [|_| 0, |right| right - 1, |right| right + 1, |right| 2 * right];
-    let resized = |(table, size): (fn(&mut Tables) -> &mut Vec<u8>, fn(usize) -> usize)| {
+    let sizes: [Size; 4] = [|_| 0, |right| right - 1, |right| right + 1, |right| 2 * right];
+    let resized = |(table, size): (Table, Size)| {
         let mut tables = tables();
         let right = table(&mut tables).len();
         table(&mut tables).resize(size(right), 0);

@@ -26,7 +26,7 @@ fn sends_if_refused<const CHECK: u32>(made: &Made, answer: &mut Answer, _: &Lent
     }
 }
 
-pub const AFTER_A_REFUSAL: [Overlooked<Spoil>; 9] = [
+pub const AFTER_A_REFUSAL: [Overlooked<Spoil>; 10] = [
     ("that a message without buffers is no answer", true, answers_if_refused::<5>),
     ("that a malformed message is no answer", true, answers_if_refused::<6>),
     ("that a message not permitted is no answer", true, answers_if_refused::<7>),
@@ -35,6 +35,11 @@ pub const AFTER_A_REFUSAL: [Overlooked<Spoil>; 9] = [
     ("that a call of a closed one sends nothing", true, sends_if_refused::<4>),
     ("that a call without buffers sends nothing", true, sends_if_refused::<5>),
     ("that a call not paid for sends nothing", true, sends_if_refused::<9>),
+    ("that a refused keepalive call sends nothing", true, |made, answer, _, lent| {
+        if answer.number == 5 && matches!(made.call.kind, Kind::Keepalive { .. }) {
+            edit_caller(made, lent, |record| record.sent = made.now());
+        }
+    }),
     ("that a refused keepalive call asks nothing", true, |made, answer, _, lent| {
         if answer.number == 5 && matches!(made.call.kind, Kind::Keepalive { .. }) {
             edit_caller(made, lent, |record| record.asked = made.now());
