@@ -1,7 +1,7 @@
 /* A scene over the compiled engine, through include/crondelith.h as a C program would call it: two connections of one partner lease
  * an id, hold a session, use up their allowance and leave, and each refusal from 1 to 9 comes. After power cuts others come back with
- * the cookie and have the id again, and one that no longer answers is found. What must come back was worked out from the scope document
- * and the requests by hand. Every other case is compared in Rust (host/compare). */
+ * the cookie and have the id again, and one that no longer answers is found. What must come back was worked out from the scope
+ * document and the requests by hand. Every other case is compared in Rust (host/compare). */
 #include <string.h>
 
 #include "check.h"
@@ -201,8 +201,9 @@ static void check_asked(uint64_t now, uint64_t connection) {
 static void check_keepalive_refusals(void) {
     static uint8_t before[CRONDELITH_CONNECTIONS];
     memcpy(before, connections, sizeof before);
-    check_refused(crondelith_keepalive(connections, sizeof connections, leases, sizeof leases - 1, allowances, sizeof allowances, 9030, 11,
-                                       reply, sizeof reply, relay, CRONDELITH_BUFFER), 1);
+    check_refused(crondelith_keepalive(connections, sizeof connections, leases, sizeof leases - 1, allowances, sizeof allowances,
+                                       9030, 11, reply, sizeof reply, relay, CRONDELITH_BUFFER),
+                  1);
     check_refused(find_out(8999, 11), 2);
     check_refused(find_out(UINT64_C(1) << 40, 11), 2);
     check_refused(find_out(9030, UINT64_MAX), 3);
@@ -213,8 +214,8 @@ static void check_keepalive_refusals(void) {
     check_clock("\0\0\0\0\0\0\43\50");
 }
 
-/* Connection 11, which holds id 1, was last sent something at 9000, the reply to its lease. It is asked at 9030 and doesn't answer, though
- * 12 establishes a session with it at 9031 and sends it data at 9085. At 9090 it is closed, and 12 is told. */
+/* Connection 11, which holds id 1, was last sent something at 9000, the reply to its lease. It is asked at 9030 and doesn't answer,
+ * though 12 establishes a session with it at 9031 and sends it data at 9085. At 9090 it is closed, and 12 is told. */
 static void check_dead(void) {
     check_record(11, "\2\377\0\0" "\0\0\0\43\50" "\0\0\0\0\0" "\0\0");
     check_quiet(9029, 11);

@@ -14,7 +14,7 @@ const CLOCK: u64 = 1_000;
 const TIMES: [u64; 10] =
     [0, CLOCK - 1, CLOCK, CLOCK + 1, CLOCK + 30, CLOCK + 60, TIME_LIMIT - 1, TIME_LIMIT, 1 << 63, u64::MAX];
 
-/// Connections that are there, the first six in different states, and numbers that none has.
+/// Six connections in different states, and numbers that none has.
 const NUMBERS: [u64; 13] = [
     IN_SESSION,
     IN_SESSION + 1,
