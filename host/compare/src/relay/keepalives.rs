@@ -8,10 +8,10 @@ use model::{Connection, Due, Relay, Request, ANSWER_TIMEOUT, KEEPALIVE_TIMEOUT};
 
 use super::agree::Outcome;
 use super::boundary::{Call, Kind};
-use crate::forms;
+use crate::forms::{type_name, TYPES};
 
-/// An outcome, and what it must have been reached with.
-pub type Outcomes = (&'static str, &'static [&'static str]);
+/// An outcome, and what it must have been reached with, in groups.
+pub type Outcomes = (&'static str, &'static [&'static [&'static str]]);
 
 /// The names of [`unanswered`].
 const NONE_UNANSWERED: [&str; 4] = ["byte 2 is 0", "byte 2 is 2", "byte 2 is 255", "byte 2 is another"];
@@ -25,84 +25,20 @@ const LONG_SENT: [&str; 3] = ["sent 30 ago", "sent 31 ago", "sent longer ago"];
 const NOT_LONG_ASKED: [&str; 4] = ["asked later", "asked now", "asked 1-58 ago", "asked 59 ago"];
 const LONG_ASKED: [&str; 3] = ["asked 60 ago", "asked 61 ago", "asked longer ago"];
 
-/// What decides a close, and beside it each kind of what doesn't.
-const CLOSED: &[&str] = &[
-    UNANSWERED,
-    LONG_ASKED[0],
-    LONG_ASKED[1],
-    LONG_ASKED[2],
-    NOT_LONG_SENT[0],
-    NOT_LONG_SENT[1],
-    NOT_LONG_SENT[2],
-    NOT_LONG_SENT[3],
-    LONG_SENT[0],
-    LONG_SENT[1],
-    LONG_SENT[2],
-];
-const NOT_YET_CLOSED: &[&str] = &[
-    UNANSWERED,
-    NOT_LONG_ASKED[0],
-    NOT_LONG_ASKED[1],
-    NOT_LONG_ASKED[2],
-    NOT_LONG_ASKED[3],
-    NOT_LONG_SENT[0],
-    NOT_LONG_SENT[1],
-    NOT_LONG_SENT[2],
-    NOT_LONG_SENT[3],
-    LONG_SENT[0],
-    LONG_SENT[1],
-    LONG_SENT[2],
-];
-const ASKED: &[&str] = &[
-    NONE_UNANSWERED[0],
-    NONE_UNANSWERED[1],
-    NONE_UNANSWERED[2],
-    NONE_UNANSWERED[3],
-    LONG_SENT[0],
-    LONG_SENT[1],
-    LONG_SENT[2],
-    NOT_LONG_ASKED[0],
-    NOT_LONG_ASKED[1],
-    NOT_LONG_ASKED[2],
-    NOT_LONG_ASKED[3],
-    LONG_ASKED[0],
-    LONG_ASKED[1],
-    LONG_ASKED[2],
-];
-const NOT_YET_ASKED: &[&str] = &[
-    NONE_UNANSWERED[0],
-    NONE_UNANSWERED[1],
-    NONE_UNANSWERED[2],
-    NONE_UNANSWERED[3],
-    NOT_LONG_SENT[0],
-    NOT_LONG_SENT[1],
-    NOT_LONG_SENT[2],
-    NOT_LONG_SENT[3],
-    NOT_LONG_ASKED[0],
-    NOT_LONG_ASKED[1],
-    NOT_LONG_ASKED[2],
-    NOT_LONG_ASKED[3],
-    LONG_ASKED[0],
-    LONG_ASKED[1],
-    LONG_ASKED[2],
-];
+/// What decides an outcome of the call, and beside it each kind of what doesn't.
+const CLOSED: &[&[&str]] = &[&[UNANSWERED], &LONG_ASKED, &NOT_LONG_SENT, &LONG_SENT];
+const NOT_YET_CLOSED: &[&[&str]] = &[&[UNANSWERED], &NOT_LONG_ASKED, &NOT_LONG_SENT, &LONG_SENT];
+const ASKED: &[&[&str]] = &[&NONE_UNANSWERED, &LONG_SENT, &NOT_LONG_ASKED, &LONG_ASKED];
+const NOT_YET_ASKED: &[&[&str]] = &[&NONE_UNANSWERED, &NOT_LONG_SENT, &NOT_LONG_ASKED, &LONG_ASKED];
 
 /// The types of messages that peers send, and those that are sent to them.
-const FROM_PEERS: &[&str] = &[
-    forms::TYPES[1],
-    forms::TYPES[2],
-    forms::TYPES[4],
-    forms::TYPES[6],
-    forms::TYPES[9],
-    forms::TYPES[11],
-    forms::TYPES[13],
-];
-const REPLIES: &[&str] = &[forms::TYPES[0], forms::TYPES[3], forms::TYPES[5], forms::TYPES[7], forms::TYPES[13]];
-const RELAYED: &[&str] = &[forms::TYPES[8], forms::TYPES[10], forms::TYPES[12]];
-const WITHOUT_REPLY: &[&str] = &[forms::TYPES[1], forms::TYPES[9], forms::TYPES[11], forms::TYPES[13]];
+const FROM_PEERS: [&str; 7] = [TYPES[1], TYPES[2], TYPES[4], TYPES[6], TYPES[9], TYPES[11], TYPES[13]];
+const WITHOUT_REPLY: [&str; 4] = [TYPES[1], TYPES[9], TYPES[11], TYPES[13]];
+const REPLIES: [&str; 5] = [TYPES[0], TYPES[3], TYPES[5], TYPES[7], TYPES[13]];
+const RELAYED: [&str; 3] = [TYPES[8], TYPES[10], TYPES[12]];
 
-/// Checks that a message is refused by whose connection has a keepalive unanswered.
-const REFUSALS: [&str; 10] = ["", "1", "2", "3", "4", "5", "6", "7", "8", "9"];
+/// The checks that may refuse a message, by their numbers.
+const CHECKS: [&str; 10] = ["", "1", "2", "3", "4", "5", "6", "7", "8", "9"];
 
 /// What calls on tables from anywhere must have reached.
 pub const CALLS_ON_ANY_TABLES: [Outcomes; 8] = [
@@ -116,33 +52,33 @@ pub const CALLS_ON_ANY_TABLES: [Outcomes; 8] = [
     ("not yet asked", NOT_YET_ASKED),
 ];
 
-/// What messages there must have reached, and other calls.
+/// What messages there must have reached, and what is sent.
 pub const SENT_ON_ANY_TABLES: [Outcomes; 7] = [
-    ("answered by", FROM_PEERS),
-    ("another byte 2 cleared by", FROM_PEERS),
-    ("unanswered, refused with", &["2", "5", "6", "7", "8", "9"]),
-    ("replied", REPLIES),
-    ("relayed", RELAYED),
-    ("session ended by", &["message", "close", "keepalive"]),
-    ("nothing sent to the sender of", WITHOUT_REPLY),
+    ("answered by", &[&FROM_PEERS]),
+    ("another byte 2 cleared by", &[&FROM_PEERS]),
+    ("unanswered, refused with", &[&["2", "5", "6", "7", "8", "9"]]),
+    ("replied", &[&REPLIES]),
+    ("relayed", &[&RELAYED]),
+    ("session ended by", &[&["message", "close", "keepalive"]]),
+    ("nothing sent to the sender of", &[&WITHOUT_REPLY]),
 ];
 
-/// What runs must have reached: no times to come, no byte 2 but 0 and 1.
+/// What runs must have reached: no times to come, no byte 2 but 0 and 1, and of times that don't decide only some.
 pub const IN_RUNS: [Outcomes; 14] = [
-    ("closed in session", &[LONG_ASKED[0], LONG_ASKED[1], LONG_ASKED[2], NOT_LONG_SENT[2], LONG_SENT[2]]),
-    ("closed, no session", &[LONG_ASKED[0], LONG_ASKED[1], LONG_ASKED[2], LONG_SENT[2]]),
-    ("closed, awaiting", &[LONG_ASKED[0], LONG_ASKED[1], LONG_ASKED[2], LONG_SENT[2]]),
-    ("asked in session", &[LONG_SENT[0], LONG_SENT[1], LONG_SENT[2], NOT_LONG_ASKED[2], LONG_ASKED[2]]),
-    ("asked, no session", &[LONG_SENT[0], LONG_SENT[1], LONG_SENT[2], NOT_LONG_ASKED[2], LONG_ASKED[2]]),
-    ("asked, awaiting", &[LONG_SENT[0], LONG_SENT[1], LONG_SENT[2]]),
-    ("not yet closed", &[NOT_LONG_ASKED[1], NOT_LONG_ASKED[2], NOT_LONG_ASKED[3], NOT_LONG_SENT[2], LONG_SENT[2]]),
-    ("not yet asked", &[NOT_LONG_SENT[1], NOT_LONG_SENT[2], NOT_LONG_SENT[3], NOT_LONG_ASKED[2], LONG_ASKED[2]]),
-    ("answered by", FROM_PEERS),
-    ("unanswered, refused with", &["2", "5", "6", "7", "8", "9"]),
-    ("replied", REPLIES),
-    ("relayed", RELAYED),
-    ("session ended by", &["message", "close", "keepalive"]),
-    ("nothing sent to the sender of", WITHOUT_REPLY),
+    ("closed in session", &[&LONG_ASKED, &[NOT_LONG_SENT[2], LONG_SENT[2]]]),
+    ("closed, no session", &[&LONG_ASKED, &[LONG_SENT[2]]]),
+    ("closed, awaiting", &[&LONG_ASKED, &[LONG_SENT[2]]]),
+    ("asked in session", &[&LONG_SENT, &[NOT_LONG_ASKED[2], LONG_ASKED[2]]]),
+    ("asked, no session", &[&LONG_SENT, &[NOT_LONG_ASKED[2], LONG_ASKED[2]]]),
+    ("asked, awaiting", &[&LONG_SENT]),
+    ("not yet closed", &[NOT_LONG_ASKED.split_at(1).1, &[NOT_LONG_SENT[2], LONG_SENT[2]]]),
+    ("not yet asked", &[NOT_LONG_SENT.split_at(1).1, &[NOT_LONG_ASKED[2], LONG_ASKED[2]]]),
+    ("answered by", &[&FROM_PEERS]),
+    ("unanswered, refused with", &[&["2", "5", "6", "7", "8", "9"]]),
+    ("replied", &[&REPLIES]),
+    ("relayed", &[&RELAYED]),
+    ("session ended by", &[&["message", "close", "keepalive"]]),
+    ("nothing sent to the sender of", &[&WITHOUT_REPLY]),
 ];
 
 /// How often each outcome was reached, with what.
@@ -187,14 +123,14 @@ impl Found {
     fn count_message(&mut self, record: &Connection, message: &[u8], now: u64, outcome: &Outcome) {
         match (outcome.answer.number, record.unanswered) {
             (0, 0) => {}
-            (0, 1) => self.add("answered by", forms::type_name(message)),
-            (0, _) => self.add("another byte 2 cleared by", forms::type_name(message)),
-            (number, 1) => self.add("unanswered, refused with", REFUSALS[number as usize]),
+            (0, 1) => self.add("answered by", type_name(message)),
+            (0, _) => self.add("another byte 2 cleared by", type_name(message)),
+            (number, 1) => self.add("unanswered, refused with", CHECKS[number as usize]),
             _ => {}
         }
         let refuses_version = matches!(Request::decode(message), Some(Request::VersionAnswer { ok: false }));
         if outcome.answer.number == 0 && outcome.reply().is_empty() && record.sent != now && !refuses_version {
-            self.add("nothing sent to the sender of", forms::type_name(message));
+            self.add("nothing sent to the sender of", type_name(message));
         }
     }
 
@@ -202,10 +138,10 @@ impl Found {
     fn count_sent(&mut self, relay: &Relay, call: &Call, caller: usize, outcome: &Outcome) {
         let is_new = |connection: usize| relay.connections[connection].sent != call.now;
         if !outcome.reply().is_empty() && is_new(caller) {
-            self.add("replied", forms::type_name(outcome.reply()));
+            self.add("replied", type_name(outcome.reply()));
         }
         if !outcome.relay().is_empty() && is_new(outcome.answer.destination as usize) {
-            self.add("relayed", forms::type_name(outcome.relay()));
+            self.add("relayed", type_name(outcome.relay()));
             if outcome.relay() == [10] {
                 self.add("session ended by", call.name());
             }
@@ -214,8 +150,8 @@ impl Found {
 
     /// Asserts that each of these outcomes was reached with all that it names.
     pub fn assert_reached(&self, outcomes: &[Outcomes]) {
-        for (outcome, all) in outcomes {
-            for with in *all {
+        for (outcome, groups) in outcomes {
+            for with in groups.iter().copied().flatten() {
                 let reached = self.0.get(outcome).is_some_and(|found| found.contains_key(with));
                 assert!(reached, "{outcome}: {with} was not reached\n{self}");
             }
