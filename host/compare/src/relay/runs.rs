@@ -74,6 +74,28 @@ impl Run {
         call
     }
 
+    /// Makes the fresh start and then so many calls of one relay by itself, each shown with the relay before and after.
+    fn alone(
+        &self,
+        subject: &impl Boundary,
+        calls: &mut Calls,
+        length: usize,
+        mut show: impl FnMut(&Relay, &Call, &Answer, &Relay) -> Result<(), Fault>,
+    ) -> Result<(), Fault> {
+        let (start, anything) = self.start(calls);
+        let mut lent = Lent::new(&anything, &start);
+        subject.call(&start, &mut lent);
+        for _ in 0..length {
+            let tables = lent.tables();
+            let before = decoded(&tables);
+            let call = self.next(calls, &before);
+            lent = Lent::new(&tables, &call);
+            let answer = subject.call(&call, &mut lent);
+            show(&before, &call, &answer, &decoded(&lent.tables()))?;
+        }
+        Ok(())
+    }
+
     /// At times a call that this kind of run has more of than others.
     fn special_call(&self, calls: &mut Calls, relay: &Relay, now: u64, partner: usize) -> Option<Call> {
         if self.power_cuts && calls.random.one_in(6) {
@@ -118,44 +140,18 @@ fn any_call_of(calls: &mut Calls, relay: &Relay, now: u64, partner: usize, data:
 
 /// Makes a run of one relay by itself, followed by the monitor of the allowances.
 pub fn follow(subject: &impl Boundary, calls: &mut Calls, length: usize) -> Result<(), Fault> {
-    let mut monitor: Option<Monitor> = None;
-    run_alone(subject, calls, length, |before, call, answer, after| match &mut monitor {
-        None => {
-            monitor = Some(Monitor::new(call.now));
-            Ok(())
-        }
-        Some(monitor) => {
-            monitor.record(&Entry::new(before, call, answer.number))?;
-            monitor.check_levels(after)
-        }
+    let run = Run::any(calls);
+    let mut monitor = Monitor::new(run.start);
+    run.alone(subject, calls, length, |before, call, answer, after| {
+        monitor.record(&Entry::new(before, call, answer.number))?;
+        monitor.check_levels(after)
     })
 }
 
 /// Makes a run of one relay by itself, followed by the monitor of dead connections.
 pub fn follow_connections(subject: &impl Boundary, calls: &mut Calls, length: usize) -> Result<(), Fault> {
     let mut monitor = ConnectionMonitor::default();
-    run_alone(subject, calls, length, |_, call, answer, _| monitor.record(call, answer))
-}
-
-/// Makes a fresh start and then so many calls of one relay, and shows each to the monitor, with the relay before and after.
-fn run_alone(
-    subject: &impl Boundary,
-    calls: &mut Calls,
-    length: usize,
-    mut show: impl FnMut(&Relay, &Call, &Answer, &Relay) -> Result<(), Fault>,
-) -> Result<(), Fault> {
-    let run = Run::any(calls);
-    let (mut call, mut tables) = run.start(calls);
-    for _ in 0..=length {
-        let before = decoded(&tables);
-        let mut lent = Lent::new(&tables, &call);
-        let answer = subject.call(&call, &mut lent);
-        tables = lent.tables();
-        let after = decoded(&tables);
-        show(&before, &call, &answer, &after)?;
-        call = run.next(calls, &after);
-    }
-    Ok(())
+    Run::any(calls).alone(subject, calls, length, |_, call, answer, _| monitor.record(call, answer))
 }
 
 /// An id that two live rows have: no run may come to that.

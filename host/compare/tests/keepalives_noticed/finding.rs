@@ -13,7 +13,7 @@ pub struct Made {
     pub answer: Answer,
     /// What a keepalive call that is accepted does.
     pub due: Option<Due>,
-    /// The first bytes of what is sent, zero where there are fewer.
+    /// The first bytes of the buffers afterwards, zero where they are shorter.
     pub reply: [u8; 6],
     pub relay: [u8; 6],
 }
@@ -122,22 +122,6 @@ pub fn due(unanswered: bool, since_asked: u64, since_sent: u64) -> Due {
 }
 
 impl Finding {
-    /// Does what is due, on what was lent as it was before.
-    fn find_out(due: Due, made: &Made, lent: &mut Lent) -> Answer {
-        let nothing = Answer::from([0, 0, 0, NOBODY, 0]);
-        if due == Due::Close {
-            let connection = made.caller as u64;
-            let kind = Kind::Close { connection, relay: lent.relay.lend().len() };
-            return Answer { disconnect: 1, ..Second.call(&Call { now: made.now(), kind }, lent) };
-        }
-        edit(lent, |relay| relay.set_clock(made.now()));
-        if due == Due::Nothing {
-            return nothing;
-        }
-        lent.reply.lend_mut()[0] = 13;
-        Answer { reply: 1, ..nothing }
-    }
-
     /// Writes what each record says of keepalives. Those that the call made fresh say nothing.
     fn note(&self, made: &Made, after: &mut Relay) {
         for (record, before) in after.connections.iter_mut().zip(&made.before.connections) {
@@ -159,6 +143,22 @@ impl Finding {
     }
 }
 
+/// Does what is due, on what was lent as it was before.
+fn do_due(due: Due, made: &Made, lent: &mut Lent) -> Answer {
+    let nothing = Answer::from([0, 0, 0, NOBODY, 0]);
+    if due == Due::Close {
+        let connection = made.caller as u64;
+        let kind = Kind::Close { connection, relay: lent.relay.lend().len() };
+        return Answer { disconnect: 1, ..Second.call(&Call { now: made.now(), kind }, lent) };
+    }
+    edit(lent, |relay| relay.set_clock(made.now()));
+    if due == Due::Nothing {
+        return nothing;
+    }
+    lent.reply.lend_mut()[0] = 13;
+    Answer { reply: 1, ..nothing }
+}
+
 impl Boundary for Finding {
     fn call(&self, call: &Call, lent: &mut Lent) -> Answer {
         let before = lent.clone();
@@ -170,7 +170,7 @@ impl Boundary for Finding {
             if let Kind::Keepalive { .. } = call.kind {
                 let due = (self.judge)(&made);
                 *lent = before.clone();
-                answer = Self::find_out(due, &made, lent);
+                answer = do_due(due, &made, lent);
                 (made.answer, made.due) = (answer, Some(due));
             }
             (made.reply, made.relay) = (start(lent.reply.lend()), start(lent.relay.lend()));
