@@ -1,7 +1,7 @@
 /* A scene over the compiled engine, through include/crondelith.h as a C program would call it: two connections of one partner lease
  * an id, hold a session, use up their allowance and leave, and each refusal from 1 to 9 comes. After power cuts others come back with
- * the cookie and have the id again. What must come back was worked out from the scope document and the request by hand. Every other
- * case is compared in Rust (host/compare). */
+ * the cookie and have the id again, and one that no longer answers is found. What must come back was worked out from the scope
+ * document and the requests by hand. Every other case is compared in Rust (host/compare). */
 #include <string.h>
 
 #include "check.h"
@@ -168,6 +168,99 @@ static void check_cookie(void) {
     check_row(17, "\0\0\0\0\0\0\61\70" ID_2 "\14\0\0\0" OTHER_COOKIE);
 }
 
+#define CONNECTION 64 /* the length of a connection's record */
+
+static crondelith_answer find_out(uint64_t now, uint64_t connection) {
+    memset(reply, 200, sizeof reply);
+    return crondelith_keepalive(TABLES, now, connection, reply, sizeof reply, relay, CRONDELITH_BUFFER);
+}
+
+/* The first 16 bytes of a connection's record; those of its session follow. */
+static void check_record(int connection, const char *bytes) {
+    CHECK(memcmp(connections + CONNECTION * connection, bytes, 16) == 0);
+}
+
+/* The clock is the last of the allowances. */
+static void check_clock(const char *bytes) {
+    CHECK(memcmp(allowances + sizeof allowances - 8, bytes, 8) == 0);
+}
+
+/* Nothing is sent and nothing written. */
+static void check_quiet(uint64_t now, uint64_t connection) {
+    static uint8_t before[CRONDELITH_CONNECTIONS];
+    memcpy(before, connections, sizeof before);
+    check_answer(find_out(now, connection), 0, 0, 0, CRONDELITH_NOBODY, 0);
+    CHECK(reply[0] == 200 && memcmp(connections, before, sizeof before) == 0);
+}
+
+static void check_asked(uint64_t now, uint64_t connection) {
+    check_answer(find_out(now, connection), 0, 1, 0, CRONDELITH_NOBODY, 0);
+    CHECK(reply[0] == 13 && reply[1] == 200);
+}
+
+static void check_keepalive_refusals(void) {
+    static uint8_t before[CRONDELITH_CONNECTIONS];
+    memcpy(before, connections, sizeof before);
+    check_refused(crondelith_keepalive(connections, sizeof connections, leases, sizeof leases - 1, allowances, sizeof allowances,
+                                       9030, 11, reply, sizeof reply, relay, CRONDELITH_BUFFER),
+                  1);
+    check_refused(find_out(8999, 11), 2);
+    check_refused(find_out(UINT64_C(1) << 40, 11), 2);
+    check_refused(find_out(9030, UINT64_MAX), 3);
+    check_refused(find_out(9030, 13), 4);
+    check_refused(crondelith_keepalive(TABLES, 9030, 11, reply, 63, relay, 64), 5);
+    check_refused(crondelith_keepalive(TABLES, 9030, 11, reply, 64, relay, 63), 5);
+    CHECK(memcmp(connections, before, sizeof before) == 0);
+    check_clock("\0\0\0\0\0\0\43\50");
+}
+
+/* Connection 11, which holds id 1, was last sent something at 9000, the reply to its lease. It is asked at 9030 and doesn't answer,
+ * though 12 establishes a session with it at 9031 and sends it data at 9085. At 9090 it is closed, and 12 is told. */
+static void check_dead(void) {
+    check_record(11, "\2\377\0\0" "\0\0\0\43\50" "\0\0\0\0\0" "\0\0");
+    check_quiet(9029, 11);
+    check_clock("\0\0\0\0\0\0\43\105");
+    check_asked(9030, 11);
+    check_clock("\0\0\0\0\0\0\43\106");
+    check_record(11, "\2\377\1\0" "\0\0\0\43\106" "\0\0\0\43\106" "\0\0");
+    check_answer(send(9031, 12, "\6\0\0\0\1", 5), 0, 54, 49, 11, 0);
+    check_record(11, "\2\14\1\0" "\0\0\0\43\107" "\0\0\0\43\106" "\0\0");
+    check_record(12, "\2\13\0\0" "\0\0\0\43\107" "\0\0\0\0\0" "\0\0");
+    check_answer(send(9085, 12, "\13hi", 3), 0, 0, 3, 11, 0);
+    check_record(11, "\2\14\1\0" "\0\0\0\43\175" "\0\0\0\43\106" "\0\0");
+    check_record(12, "\2\13\0\0" "\0\0\0\43\107" "\0\0\0\0\0" "\0\0");
+    check_quiet(9089, 11);
+    relay[0] = 0;
+    check_answer(find_out(9090, 11), 0, 0, 1, 12, 1);
+    CHECK(reply[0] == 200 && relay[0] == 10);
+    check_record(11, "\0\377\0\0" "\0\0\0\0\0" "\0\0\0\0\0" "\0\0");
+    check_record(12, "\2\377\0\0" "\0\0\0\43\202" "\0\0\0\0\0" "\0\0");
+    CHECK(connections[CONNECTION * 12 + 16] == 0 && connections[CONNECTION * 12 + 63] == 0);
+    check_row(16, "\0\0\0\0\0\0\61\70\0\0\0\1\377\0\0\0" COOKIE);
+    check_refused(find_out(9090, 11), 4);
+}
+
+/* Connection 12 is asked at 9120 and answers at 9121; it is asked again at 9150. */
+static void check_alive(void) {
+    check_asked(9120, 12);
+    check_answer(send(9121, 12, "\15", 1), 0, 0, 0, CRONDELITH_NOBODY, 0);
+    check_record(12, "\2\377\0\0" "\0\0\0\43\240" "\0\0\0\43\240" "\0\0");
+    check_quiet(9149, 12);
+    check_asked(9150, 12);
+    check_record(12, "\2\377\1\0" "\0\0\0\43\276" "\0\0\0\43\276" "\0\0");
+    /* The message at 9121 was the last to be charged: 33 of 262,144. */
+    CHECK(memcmp(allowances + 16, "\0\0\0\0\0\3\377\337" "\0\0\0\0\0\0\43\241", 16) == 0);
+}
+
+/* An awaiting connection is found like an open one: it is sent nothing after its version message at 9150. */
+static void check_awaiting(void) {
+    check_open(9150, 13);
+    check_asked(9180, 13);
+    check_record(13, "\1\377\1\0" "\0\0\0\43\334" "\0\0\0\43\334" "\0\0");
+    check_answer(find_out(9240, 13), 0, 0, 0, CRONDELITH_NOBODY, 1);
+    check_record(13, "\0\377\0\0" "\0\0\0\0\0" "\0\0\0\0\0" "\0\0");
+}
+
 int main(void) {
     check_fresh();
     check_opens();
@@ -175,6 +268,10 @@ int main(void) {
     check_allowance();
     check_leave();
     check_cookie();
+    check_keepalive_refusals();
+    check_dead();
+    check_alive();
+    check_awaiting();
     printf("crondelith_check: %d failed\n", failures);
     return failures != 0;
 }

@@ -140,6 +140,26 @@ static void check_closes(void) {
     check_reason(crondelith_explain_close(TABLES, 100, 13, UINT64_MAX), 0, 0, 0, 0, 0);
 }
 
+/* A keepalive is free, whatever is due: at 100 connection 8 is asked, 12 is dead, and to 9 nothing is sent. */
+static void check_keepalives(void) {
+    make_scene();
+    set_level(0, 100);
+    tables.connections[64 * 12 + 2] = 1;
+    tables.connections[64 * 9 + 8] = 71;
+    before = tables;
+    check_stopped(crondelith_explain_keepalive(TABLES_OF(4095, 5120, 144), 100, 8, 64, 64), 1);
+    check_stopped(crondelith_explain_keepalive(TABLES, UINT64_C(1) << 40, 8, 64, 64), 2);
+    check_stopped(crondelith_explain_keepalive(TABLES, 99, 8, 64, 64), 2);
+    check_stopped(crondelith_explain_keepalive(TABLES, 100, UINT64_MAX, 64, 64), 3);
+    check_stopped(crondelith_explain_keepalive(TABLES, 100, 14, 64, 64), 4);
+    check_stopped(crondelith_explain_keepalive(TABLES, 100, 8, 63, UINT64_MAX), 5);
+    check_stopped(crondelith_explain_keepalive(TABLES, 100, 8, UINT64_MAX, 63), 5);
+    check_reason(crondelith_explain_keepalive(TABLES, 100, 8, 64, 64), 0, 0, 0, 0, 0);
+    check_reason(crondelith_explain_keepalive(TABLES, 100, 9, 64, 64), 0, 0, 0, 0, 0);
+    check_reason(crondelith_explain_keepalive(TABLES, 100, 12, 64, 64), 0, 0, 0, 0, 0);
+    check_reason(crondelith_explain_keepalive(TABLES, 100, 13, UINT64_MAX, UINT64_MAX), 0, 0, 0, 0, 0);
+}
+
 /* A message costs 32 and its length, but SessionEnd (type 9) nothing. */
 static void check_messages(void) {
     make_scene();
@@ -198,6 +218,7 @@ static void check_establishes(void) {
 int main(void) {
     check_opens();
     check_closes();
+    check_keepalives();
     check_messages();
     check_leases("\2\0", 2, 262110);
     /* With the cookie of rows that come and go here, of a held row, and of one that is renewed if the lease is accepted. */

@@ -1,4 +1,4 @@
-//! The three functions that explain a call, compared with the second implementation and with what the compiled relay
+//! The functions that explain a call, compared with the second implementation and with what the compiled relay
 //! then does.
 
 use compare::difference::Difference;

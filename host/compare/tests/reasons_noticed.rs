@@ -11,6 +11,7 @@ use compare::relay::single;
 use compare::relay::spoiled::SPOILED_BYTES;
 use compare::{amount, forms};
 use engine::reasons::{Reason, LEASE};
+use engine::relay::BUFFER;
 use model::{partner_of, Condition, Lease, RandomBytes, Relay, State, Tables, LEVEL_LIMIT, TIME_LIMIT};
 
 /// Explains as the second implementation does, and then spoils something.
@@ -72,6 +73,7 @@ const SPOILED_REASONS: [fn(&mut Reason); 17] = [
 fn scenes() -> Vec<(Tables, Call)> {
     let open = |connection| Kind::Open { connection, reply: 64 };
     let close = |connection| Kind::Close { connection, relay: 64 };
+    let keepalive = |connection| Kind::Keepalive { connection, reply: 64, relay: 64 };
     let (lease, establish) = ([2, 0], [6, 0, 0, 0, 1]);
     let calls = [
         (LEVEL_LIMIT, open(4)),
@@ -87,6 +89,8 @@ fn scenes() -> Vec<(Tables, Call)> {
         (0, message(3, &[9])),
         (0, close(3)),
         (0, close(4)),
+        (0, keepalive(3)),
+        (0, keepalive(4)),
     ];
     calls.map(|(level, kind)| (tables_at(level), Call { now: 100, kind })).into()
 }
@@ -156,7 +160,7 @@ impl Explain for Overlooking {
     }
 }
 
-const OVERLOOKED: [(&str, Overlook); 13] = [
+const OVERLOOKED: [(&str, Overlook); 17] = [
     ("the refill", |relay, call| relay.allowances[partner(call)].updated = call.now),
     ("whose allowance it is", |relay, call| relay.allowances[partner(call)] = relay.allowances[0].clone()),
     ("that time doesn't go back", |relay, _| relay.set_clock(0)),
@@ -170,6 +174,10 @@ const OVERLOOKED: [(&str, Overlook); 13] = [
     ("that a lease ends at its expiry", |relay, _| relay.leases.iter_mut().for_each(prolong)),
     ("ids live under another partner", |relay, call| end_leases_but_of(relay, partner(call))),
     ("that both name each other in a session", |relay, call| name_back(relay, call)),
+    ("the reply buffer of a keepalive call", |_, call| lengthen_keepalive(&mut call.kind, true)),
+    ("the relay buffer of a keepalive call", |_, call| lengthen_keepalive(&mut call.kind, false)),
+    ("that no closed connection is asked", |relay, call| change_state(relay, call, State::Closed, State::Open)),
+    ("that awaiting connections are asked", |relay, call| change_state(relay, call, State::Awaiting, State::Closed)),
 ];
 
 /// The caller's partner.
@@ -178,18 +186,13 @@ fn partner(call: &Call) -> usize {
 }
 
 fn cut_connection(kind: &mut Kind) {
-    if let Kind::Open { connection, .. } | Kind::Message { connection, .. } | Kind::Close { connection, .. } = kind {
+    if let Some(connection) = kind.connection_mut() {
         *connection &= 0xffff_ffff;
     }
 }
 
 fn cut_lengths(kind: &mut Kind) {
-    let cut = |length: &mut usize| *length &= 0xffff_ffff;
-    match kind {
-        Kind::Fresh => {}
-        Kind::Open { reply: length, .. } | Kind::Close { relay: length, .. } => cut(length),
-        Kind::Message { reply, relay, .. } => [reply, relay].into_iter().for_each(cut),
-    }
+    kind.rooms_mut().into_iter().for_each(|length| *length &= 0xffff_ffff);
 }
 
 fn hold_message(kind: &mut Kind) {
@@ -244,6 +247,35 @@ fn name_back(relay: &mut Relay, call: &Call) {
     }
 }
 
+fn lengthen_keepalive(kind: &mut Kind, the_reply: bool) {
+    if let Kind::Keepalive { reply, relay, .. } = kind {
+        *(if the_reply { reply } else { relay }) = BUFFER;
+    }
+}
+
+/// Takes the connection of a keepalive call for one in another state.
+fn change_state(relay: &mut Relay, call: &Call, from: State, to: State) {
+    if let (Kind::Keepalive { .. }, Some(caller)) = (&call.kind, call.caller()) {
+        let record = &mut relay.connections[caller];
+        if record.state() == from {
+            record.set_state(to);
+        }
+    }
+}
+
+/// Names what is due for a connection as if it were a condition.
+struct TellsDue;
+
+impl Explain for TellsDue {
+    fn explain(&self, call: &Call, lent: &mut Lent) -> Reason {
+        let mut reason = Second.explain(call, lent);
+        if let (0, Kind::Keepalive { .. }, Some(caller)) = (reason.check, &call.kind, call.caller()) {
+            reason.condition = decoded(&lent.tables()).connections[caller].due(call.now) as u32;
+        }
+        reason
+    }
+}
+
 /// Names the last condition of a lease that fails, and not the first.
 struct LastCondition;
 
@@ -292,6 +324,7 @@ fn what_is_overlooked() {
         explain_calls(&Overlooking(overlook)).expect_err(what);
     }
     explain_calls(&LastCondition).expect_err("which condition is the first");
+    explain_calls(&TellsDue).expect_err("that a keepalive call has no condition");
 }
 
 #[test]

@@ -1,14 +1,12 @@
-//! The relay's four functions, by single calls on tables from anywhere.
+//! The relay's functions, by single calls on tables from anywhere.
 
 use compare::difference::Difference;
 use compare::relay::boundary::{Kind, Proved};
 use compare::relay::calls::Calls;
-use compare::relay::leases::ON_ANY_TABLES;
+use compare::relay::compared::CALLS;
 use compare::relay::reached::Reached;
-use compare::relay::{agree, single};
+use compare::relay::{agree, keepalives, leases, single};
 use compare::{amount, forms};
-
-const CALLS: u64 = 120_000;
 
 #[test]
 fn calls_on_tables_from_anywhere() -> Result<(), Difference> {
@@ -24,12 +22,14 @@ fn calls_on_tables_from_anywhere() -> Result<(), Difference> {
         reached.count(tables, &call, &outcome);
         Ok(())
     })?;
-    let answers: [(_, &[u32]); 4] = [
+    let answers: [(_, &[u32]); 5] = [
         ("fresh", &[0, 1, 2]),
         ("open", &[0, 1, 2, 3, 4, 5, 9]),
         ("message", &[0, 1, 2, 3, 4, 5, 6, 7, 8, 9]),
         ("close", &[0, 1, 2, 3, 4, 5]),
+        ("keepalive", &[0, 1, 2, 3, 4, 5]),
     ];
-    reached.assert_all(&answers, &ON_ANY_TABLES);
+    let keepalives = [&keepalives::CALLS_ON_ANY_TABLES[..], &keepalives::SENT_ON_ANY_TABLES].concat();
+    reached.assert_all(&answers, &leases::ON_ANY_TABLES, &keepalives);
     Ok(())
 }

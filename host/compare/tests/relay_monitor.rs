@@ -1,6 +1,6 @@
 //! The monitor of the allowances: it accepts the runs of both relays, and notices wrong histories and wrong relays.
 
-use compare::relay::boundary::{Boundary, Call, Lent, Proved, Second};
+use compare::relay::boundary::{Boundary, Call, Kind, Lent, Proved, Second};
 use compare::relay::calls::Calls;
 use compare::relay::monitor::{Entry, Fault, Monitor};
 use compare::relay::runs::{decoded, follow};
@@ -48,7 +48,12 @@ fn partner(call: &Call) -> usize {
     call.caller().map_or(0, partner_of)
 }
 
-const WRONG_RELAYS: [Wrong; 8] = [
+/// Whether it is a keepalive call that is accepted.
+fn finds_out(call: &Call, answer: &Answer) -> bool {
+    answer.number == 0 && matches!(call.kind, Kind::Keepalive { .. })
+}
+
+const WRONG_RELAYS: [Wrong; 10] = [
     // Nothing is charged.
     Wrong(|call, _, before, after| after.allowances[partner(call)] = before.allowances[partner(call)].clone()),
     // One less than the cost is charged.
@@ -62,6 +67,20 @@ const WRONG_RELAYS: [Wrong; 8] = [
         if answer.number == 0 && call.message() == [9] {
             let level = &mut after.allowances[partner(call)].level;
             *level = level.saturating_sub(1);
+        }
+    }),
+    // The keepalive call is charged.
+    Wrong(|call, answer, _, after| {
+        if finds_out(call, answer) {
+            let level = &mut after.allowances[partner(call)].level;
+            *level = level.saturating_sub(1);
+        }
+    }),
+    // The keepalive call is refused where an open would be.
+    Wrong(|call, answer, before, after| {
+        if finds_out(call, answer) && before.allowances[partner(call)].level_at(call.now) < model::BASE_COST {
+            answer.number = 9;
+            *after = before.clone();
         }
     }),
     // The cookie of a lease request is free.

@@ -4,7 +4,7 @@ use compare::relay::agree;
 use compare::relay::boundary::{Boundary, Call, Kind, Lent, Second};
 use compare::relay::spoiled::SPOILED_BYTES;
 use engine::relay::Answer;
-use model::{Relay, Tables};
+use model::{Relay, State, Tables};
 
 /// Answers as the second implementation does, and then spoils something.
 #[derive(Clone, Copy)]
@@ -43,10 +43,23 @@ fn accepted_and_refused() -> (Tables, [Call; 2]) {
     (tables, [100, 1 << 40].map(keepalive))
 }
 
+/// A keepalive call for an open connection that is sent nothing, asked or closed, as its record says, and one that comes too
+/// late.
+fn keepalive_calls() -> [(Tables, Call); 4] {
+    [(0, 71, 100), (0, 70, 100), (1, 40, 100), (0, 70, 1 << 40)].map(|(unanswered, time, now)| {
+        let mut relay = Relay::fresh(100);
+        let record = &mut relay.connections[0];
+        record.set_state(State::Open);
+        (record.unanswered, record.sent, record.asked) = (unanswered, time, time);
+        (relay.encode(), Call { now, kind: Kind::Keepalive { connection: 0, reply: 64, relay: 64 } })
+    })
+}
+
 #[test]
 fn a_wrong_answer() {
     let (tables, calls) = accepted_and_refused();
-    for call in calls {
+    let messages = calls.map(|call| (tables.clone(), call));
+    for (tables, call) in messages.into_iter().chain(keepalive_calls()) {
         assert!(agree::call(&UNSPOILED, &tables, &call).is_ok());
         for answer in SPOILED_ANSWERS {
             assert!(agree::call(&Spoiled { answer, ..UNSPOILED }, &tables, &call).is_err());

@@ -1,17 +1,17 @@
-//! Runs of hundreds of calls from a fresh start, compared call by call and followed by the monitor of the allowances.
+//! Runs of hundreds of calls from a fresh start, compared call by call and followed by the monitors of the allowances and of
+//! dead connections.
 
 use compare::difference::Difference;
-use compare::relay::agree;
 use compare::relay::boundary::Proved;
 use compare::relay::calls::Calls;
-use compare::relay::leases::{LastHolders, IN_RUNS};
+use compare::relay::compared::{CALLS_OF_EACH, RUNS};
+use compare::relay::connection_monitor::ConnectionMonitor;
+use compare::relay::leases::LastHolders;
 use compare::relay::monitor::{Entry, Fault, Monitor};
 use compare::relay::reached::Reached;
-use compare::relay::runs::{decoded, doubled_id, Run};
+use compare::relay::runs::{decoded, doubled_id, unused_bytes, Run};
+use compare::relay::{agree, keepalives, leases};
 use compare::{amount, forms};
-
-const RUNS: u64 = 250;
-const CALLS_OF_EACH: usize = 500;
 
 /// What ends a run before its time.
 #[derive(Debug)]
@@ -42,13 +42,14 @@ fn runs_of_both_relays() -> Result<(), Failure> {
     for _ in 0..amount::rounds(RUNS) {
         compare_run(&mut calls, &mut reached)?;
     }
-    let answers: [(_, &[u32]); 4] = [
+    let answers: [(_, &[u32]); 5] = [
         ("fresh", &[0]),
         ("open", &[0, 2, 3, 4, 5, 9]),
         ("message", &[0, 2, 3, 4, 5, 6, 7, 8, 9]),
         ("close", &[0, 2, 3, 4, 5]),
+        ("keepalive", &[0, 2, 3, 4, 5]),
     ];
-    reached.assert_all(&answers, &IN_RUNS);
+    reached.assert_all(&answers, &leases::IN_RUNS, &keepalives::IN_RUNS);
     Ok(())
 }
 
@@ -58,6 +59,7 @@ fn compare_run(calls: &mut Calls, reached: &mut Reached) -> Result<(), Failure> 
     let begun = agree::call(&Proved, &anything, &start)?;
     reached.count(&anything, &start, &begun);
     let mut monitor = Monitor::new(start.now);
+    let mut connection_monitor = ConnectionMonitor::default();
     let mut last_holders = LastHolders::default();
     let mut tables = begun.lent.tables();
     for _ in 0..CALLS_OF_EACH {
@@ -67,10 +69,12 @@ fn compare_run(calls: &mut Calls, reached: &mut Reached) -> Result<(), Failure> 
         reached.count(&tables, &call, &outcome);
         reached.count_return(&relay, &call, &outcome, &last_holders);
         monitor.record(&Entry::new(&relay, &call, outcome.answer.number))?;
+        connection_monitor.record(&call, &outcome.answer)?;
         tables = outcome.lent.tables();
         let relay = decoded(&tables);
         last_holders.note(&relay);
         assert_eq!(doubled_id(&relay), None, "the id of two live rows, after {call:?}");
+        assert_eq!(unused_bytes(&tables), None, "a connection's unused bytes, after {call:?}");
         monitor.check_levels(&relay)?;
     }
     Ok(())

@@ -1,9 +1,10 @@
-//! The four calls. Each is checked first and then acts on a decoded copy of the tables, so that one refused alters no
+//! The five calls. Each is checked first and then acts on a decoded copy of the tables, so that one refused alters no
 //! byte.
 
 use codec::{encode, Message};
 
 use crate::checks::{check, Action, Call, Kind, Passed, Refusal};
+use crate::keepalives::Due;
 use crate::records::{Allowance, Connection, Session, State};
 use crate::relay::{partner_of, Relay, Tables};
 use crate::requests::{RandomBytes, Request};
@@ -90,11 +91,18 @@ pub fn close(tables: &mut Tables, now: u64, connection: u64, relay: &mut [u8]) -
     deliver(attempt(tables, Call { now, connection, kind }), &mut [], relay)
 }
 
+/// Finds out whether a connection is dead.
+pub fn keepalive(tables: &mut Tables, now: u64, connection: u64, reply: &mut [u8], relay: &mut [u8]) -> Answer {
+    let kind = Kind::Keepalive { reply_length: reply.len() as u64, relay_length: relay.len() as u64 };
+    deliver(attempt(tables, Call { now, connection, kind }), reply, relay)
+}
+
 /// Makes a call on a copy of the relay, which becomes the relay if the call is accepted.
 fn attempt(tables: &mut Tables, call: Call) -> Result<Sent, Refusal> {
     let (mut relay, passed) = check(tables, &call)?;
     relay.charge(&passed, call.now)?;
     let sent = relay.act(passed.caller, passed.action, call.now);
+    relay.note_sent(passed.caller, &sent, call.now);
     relay.set_clock(call.now);
     *tables = relay.encode();
     Ok(sent)
@@ -127,6 +135,16 @@ impl Relay {
             Action::Open => self.open(caller),
             Action::Request(request, random) => self.serve(caller, request, random, now),
             Action::Close => self.close(caller),
+            Action::Keepalive => self.keepalive(caller, now),
+        }
+    }
+
+    /// "the reading of the last message sent to it": a reply is sent to the caller, what is relayed to the other.
+    fn note_sent(&mut self, caller: usize, sent: &Sent, now: u64) {
+        let replied_to = (!sent.reply.is_empty()).then_some(caller);
+        let relayed_to = sent.relay.as_ref().map(|&(to, _)| to);
+        for receiver in replied_to.into_iter().chain(relayed_to) {
+            self.connections[receiver].sent = now;
         }
     }
 
@@ -142,7 +160,21 @@ impl Relay {
         sent
     }
 
+    fn keepalive(&mut self, caller: usize, now: u64) -> Sent {
+        match self.connections[caller].due(now) {
+            Due::Nothing => Sent::default(),
+            Due::Ask => {
+                self.connections[caller].set_asked(now);
+                Sent::reply(Message::Keepalive)
+            }
+            // "closed as by close, hang-up yes"
+            Due::Close => Sent { disconnect: true, ..self.close(caller) },
+        }
+    }
+
     fn serve(&mut self, caller: usize, request: Request, random: RandomBytes, now: u64) -> Sent {
+        // "Any done message from the connection clears byte 2."
+        self.connections[caller].unanswered = 0;
         match request {
             Request::VersionAnswer { ok } => self.answer_version(caller, ok),
             Request::Lease { cookie } => Sent::reply(match self.lease(caller, cookie, random, now) {

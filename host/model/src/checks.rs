@@ -35,15 +35,17 @@ pub(crate) enum Kind<'a> {
     Open { reply_length: u64 },
     Message { message: &'a [u8], random: &'a [u8], reply_length: u64, relay_length: u64 },
     Close { relay_length: u64 },
+    Keepalive { reply_length: u64, relay_length: u64 },
 }
 
 impl Kind<'_> {
-    /// What the call costs, if it is a charged one: "an open costs 32", "close [..] nothing".
+    /// What the call costs, if it is a charged one: "an open costs 32", "close [..] nothing"; the new call is "free of
+    /// charge".
     fn cost(&self) -> Option<u64> {
         match self {
             Self::Open { .. } => Some(BASE_COST),
             Self::Message { message, .. } => cost(message),
-            Self::Close { .. } => None,
+            Self::Close { .. } | Self::Keepalive { .. } => None,
         }
     }
 }
@@ -54,6 +56,7 @@ pub(crate) enum Action<'a> {
     Open,
     Request(Request<'a>, RandomBytes<'a>),
     Close,
+    Keepalive,
 }
 
 /// A call that has passed checks 1 to 8.
@@ -93,7 +96,7 @@ fn refuse_if(applies: bool, refusal: Refusal) -> Result<(), Refusal> {
 
 impl Relay {
     /// Checks 4 to 8: "open on a connection not closed; message or close on a closed one", and what a call of each kind
-    /// has to bring.
+    /// has to bring. For a keepalive they "apply as for close, with both trays at least 64".
     fn check_kind<'a>(&self, caller: usize, kind: Kind<'a>) -> Result<Action<'a>, Refusal> {
         let closed = self.connections[caller].state() == State::Closed;
         refuse_if(closed != matches!(kind, Kind::Open { .. }), Refusal::WrongState)?;
@@ -111,6 +114,10 @@ impl Relay {
             Kind::Close { relay_length } => {
                 refuse_if(relay_length < BUFFER, Refusal::Buffers)?;
                 Ok(Action::Close)
+            }
+            Kind::Keepalive { reply_length, relay_length } => {
+                refuse_if(reply_length.min(relay_length) < BUFFER, Refusal::Buffers)?;
+                Ok(Action::Keepalive)
             }
         }
     }

@@ -5,6 +5,7 @@
 
 mod calls;
 mod checks;
+mod keepalives;
 mod leases;
 pub mod reasons;
 mod records;
@@ -13,8 +14,9 @@ mod renewals;
 mod requests;
 mod sessions;
 
-pub use calls::{close, fresh, message, open, Answer};
+pub use calls::{close, fresh, keepalive, message, open, Answer};
 pub use checks::Refusal;
+pub use keepalives::{Due, ANSWER_TIMEOUT, KEEPALIVE_TIMEOUT};
 pub use leases::{Condition, Offer};
 pub use records::{Allowance, Connection, Lease, Session, State};
 pub use relay::{partner_of, partner_of_row, Relay, Tables, CONNECTIONS, LEASES, PARTNERS};

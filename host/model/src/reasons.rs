@@ -63,6 +63,11 @@ pub fn close(tables: &Tables, now: u64, connection: u64, relay_length: u64) -> R
     explain(tables, Call { now, connection, kind: Kind::Close { relay_length } })
 }
 
+/// Finding out whether a connection is dead.
+pub fn keepalive(tables: &Tables, now: u64, connection: u64, reply_length: u64, relay_length: u64) -> Reason {
+    explain(tables, Call { now, connection, kind: Kind::Keepalive { reply_length, relay_length } })
+}
+
 fn explain(tables: &Tables, call: Call) -> Reason {
     match check(tables, &call) {
         Err(refusal) => Reason { outcome: Outcome::Stopped(refusal), headroom: None },

@@ -26,6 +26,15 @@ pub enum State {
     Open,
 }
 
+/// Takes a time of five bytes, which have room for every time below the limit.
+fn take_time(bytes: &mut &[u8]) -> u64 {
+    take::<5>(bytes).iter().fold(0, |time, &byte| time << 8 | u64::from(byte))
+}
+
+fn put_time(to: &mut Vec<u8>, time: u64) {
+    to.extend(&time.to_be_bytes()[3..]);
+}
+
 /// What a connection knows of its session, all zero without one.
 #[derive(Clone, Copy, Debug, Default, PartialEq, Eq)]
 pub struct Session {
@@ -39,14 +48,22 @@ pub struct Connection {
     state: u8,
     /// The peer connection, or [`NOBODY`].
     pub peer: u8,
-    unused: [u8; 14],
+    /// "byte 2 is 1 while a keepalive is unanswered"
+    pub unanswered: u8,
+    /// Bytes 3, 14 and 15.
+    unused: [u8; 3],
+    /// "4-8 the reading of the last message sent to it"
+    pub sent: u64,
+    /// "9-13 that of the unanswered keepalive"
+    pub asked: u64,
     pub session: Session,
 }
 
 impl Connection {
     /// "connections all zero but byte 1 = 255", and here the state.
     pub fn fresh(state: State) -> Self {
-        Self { state: state as u8, peer: NOBODY, unused: [0; 14], session: Session::default() }
+        let session = Session::default();
+        Self { state: state as u8, peer: NOBODY, unanswered: 0, unused: [0; 3], sent: 0, asked: 0, session }
     }
 
     /// "State above 2 reads as closed."
@@ -72,15 +89,19 @@ impl Record for Connection {
     const LENGTH: usize = 64;
 
     fn decode(mut bytes: &[u8]) -> Self {
-        let [state, peer] = take(&mut bytes);
-        let unused = take(&mut bytes);
+        let [state, peer, unanswered, third] = take(&mut bytes);
+        let [sent, asked] = [(); 2].map(|()| take_time(&mut bytes));
+        let [last_but_one, last] = take(&mut bytes);
         let [id, peer_id, key] = [(); 3].map(|()| take(&mut bytes));
-        Self { state, peer, unused, session: Session { id, peer: peer_id, key } }
+        let unused = [third, last_but_one, last];
+        Self { state, peer, unanswered, unused, sent, asked, session: Session { id, peer: peer_id, key } }
     }
 
     fn encode(&self, to: &mut Vec<u8>) {
-        to.extend([self.state, self.peer]);
-        to.extend(self.unused);
+        to.extend([self.state, self.peer, self.unanswered, self.unused[0]]);
+        put_time(to, self.sent);
+        put_time(to, self.asked);
+        to.extend(&self.unused[1..]);
         to.extend(self.session.id);
         to.extend(self.session.peer);
         to.extend(self.session.key);

@@ -25,6 +25,9 @@ impl Explain for Proved {
                 reasons::message(tables, call.now, connection, message, random, reply as u64, relay as u64)
             }
             Kind::Close { connection, relay } => reasons::close(tables, call.now, connection, relay as u64),
+            Kind::Keepalive { connection, reply, relay } => {
+                reasons::keepalive(tables, call.now, connection, reply as u64, relay as u64)
+            }
         }
     }
 }
@@ -32,7 +35,7 @@ impl Explain for Proved {
 /// The second implementation, its reasons put as include/crondelith.h has them.
 impl Explain for Second {
     fn explain(&self, call: &Call, lent: &mut Lent) -> Reason {
-        use model::reasons::{close, message, open};
+        use model::reasons::{close, keepalive, message, open};
         let (tables, now) = (&lent.tables(), call.now);
         let (bytes, random) = (lent.message.lend(), lent.random.lend());
         let reason = match call.kind {
@@ -42,6 +45,9 @@ impl Explain for Second {
                 message(tables, now, connection, bytes, random, reply as u64, relay as u64)
             }
             Kind::Close { connection, relay } => close(tables, now, connection, relay as u64),
+            Kind::Keepalive { connection, reply, relay } => {
+                keepalive(tables, now, connection, reply as u64, relay as u64)
+            }
         };
         let ([check, request, condition, charged], headroom) = reason.numbers();
         Reason { check, request, condition, charged, headroom }

@@ -11,8 +11,12 @@ use crate::relay::runs::decoded;
 use crate::tally::Tally;
 
 /// The checks that stop each call, and 0.
-const CHECKS: [(&str, &[u32]); 3] =
-    [("open", &[0, 1, 2, 3, 4, 5, 9]), ("message", &[0, 1, 2, 3, 4, 5, 6, 7, 8, 9]), ("close", &[0, 1, 2, 3, 4, 5])];
+const CHECKS: [(&str, &[u32]); 4] = [
+    ("open", &[0, 1, 2, 3, 4, 5, 9]),
+    ("message", &[0, 1, 2, 3, 4, 5, 6, 7, 8, 9]),
+    ("close", &[0, 1, 2, 3, 4, 5]),
+    ("keepalive", &[0, 1, 2, 3, 4, 5]),
+];
 
 /// The names under which the conditions of done leases and the statuses of done establishes are counted.
 const CONDITION: &str = "lease condition";
@@ -69,7 +73,9 @@ impl Reached {
         for (name, _) in CHECKS {
             self.beyond_memory.assert_reached(name, 0, true);
         }
-        self.beyond_memory.assert_reached("message", 5, true);
+        for name in ["message", "keepalive"] {
+            self.beyond_memory.assert_reached(name, 5, true);
+        }
     }
 }
 

@@ -21,6 +21,29 @@ pub enum Kind {
     Open { connection: u64, reply: usize },
     Message { connection: u64, message: Vec<u8>, random: Vec<u8>, reply: usize, relay: usize },
     Close { connection: u64, relay: usize },
+    Keepalive { connection: u64, reply: usize, relay: usize },
+}
+
+impl Kind {
+    /// The number of the caller's connection.
+    pub fn connection_mut(&mut self) -> Option<&mut u64> {
+        match self {
+            Self::Fresh => None,
+            Self::Open { connection, .. }
+            | Self::Message { connection, .. }
+            | Self::Close { connection, .. }
+            | Self::Keepalive { connection, .. } => Some(connection),
+        }
+    }
+
+    /// The lengths of the buffers that are only written.
+    pub fn rooms_mut(&mut self) -> Vec<&mut usize> {
+        match self {
+            Self::Fresh => vec![],
+            Self::Open { reply: room, .. } | Self::Close { relay: room, .. } => vec![room],
+            Self::Message { reply, relay, .. } | Self::Keepalive { reply, relay, .. } => vec![reply, relay],
+        }
+    }
 }
 
 impl Call {
@@ -31,6 +54,7 @@ impl Call {
             Kind::Open { .. } => "open",
             Kind::Message { .. } => "message",
             Kind::Close { .. } => "close",
+            Kind::Keepalive { .. } => "keepalive",
         }
     }
 
@@ -38,9 +62,10 @@ impl Call {
     pub fn caller(&self) -> Option<usize> {
         let connection = match self.kind {
             Kind::Fresh => return None,
-            Kind::Open { connection, .. } | Kind::Message { connection, .. } | Kind::Close { connection, .. } => {
-                connection
-            }
+            Kind::Open { connection, .. }
+            | Kind::Message { connection, .. }
+            | Kind::Close { connection, .. }
+            | Kind::Keepalive { connection, .. } => connection,
         };
         (connection < model::CONNECTIONS as u64).then_some(connection as usize)
     }
@@ -50,7 +75,7 @@ impl Call {
         match &self.kind {
             Kind::Open { .. } => Some(model::BASE_COST),
             Kind::Message { message, .. } => model::cost(message),
-            Kind::Fresh | Kind::Close { .. } => None,
+            Kind::Fresh | Kind::Close { .. } | Kind::Keepalive { .. } => None,
         }
     }
 
@@ -74,7 +99,7 @@ impl Call {
         match self.kind {
             Kind::Fresh => [0, 0],
             Kind::Open { reply, .. } => [reply, 0],
-            Kind::Message { reply, relay, .. } => [reply, relay],
+            Kind::Message { reply, relay, .. } | Kind::Keepalive { reply, relay, .. } => [reply, relay],
             Kind::Close { relay, .. } => [0, relay],
         }
     }
@@ -164,6 +189,7 @@ impl Boundary for Proved {
                 relay::message(tables, call.now, connection, message, random, reply, relay)
             }
             Kind::Close { connection, .. } => relay::close(tables, call.now, connection, relay),
+            Kind::Keepalive { connection, .. } => relay::keepalive(tables, call.now, connection, reply, relay),
         }
     }
 }
@@ -183,6 +209,7 @@ impl Boundary for Second {
                 model::message(&mut tables, call.now, connection, message, random, reply, relay)
             }
             Kind::Close { connection, .. } => model::close(&mut tables, call.now, connection, relay),
+            Kind::Keepalive { connection, .. } => model::keepalive(&mut tables, call.now, connection, reply, relay),
         };
         lent.set_tables(&tables);
         Answer::from(answer.numbers())

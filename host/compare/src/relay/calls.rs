@@ -1,23 +1,17 @@
 //! Calls to make: mostly such as the relay's state suggests, with ids and cookies that are in its tables.
 
-use codec::{encode, Message, COOKIE_LENGTH, DATA_LIMIT};
+use codec::{COOKIE_LENGTH, DATA_LIMIT};
 use engine::relay::{BUFFER, RANDOM};
 use model::{partner_of, Lease, Relay, State, Tables, BASE_COST, CONNECTIONS, TIME_LIMIT};
+use model::{ANSWER_TIMEOUT, KEEPALIVE_TIMEOUT};
 
 use super::boundary::{Call, Kind};
+use super::mistakes::TIMES_TOO_LATE;
 use super::tables;
-use crate::forms;
 use crate::random::Random;
-
-/// Connection numbers that there are not, some with a low byte that would be one.
-const NO_CONNECTIONS: [u64; 8] = [64, 65, 255, 256, 1 << 32, (1 << 32) + 5, 1 << 63, u64::MAX];
 
 /// Times at which calls are made on tables from anywhere.
 const TIMES: [u64; 8] = [0, 1, 100, 3_600, 1 << 32, TIME_LIMIT - 3_600, TIME_LIMIT - 2, TIME_LIMIT - 1];
-const TIMES_TOO_LATE: [u64; 4] = [TIME_LIMIT, TIME_LIMIT + 1, 1 << 63, u64::MAX];
-
-/// Lengths that no buffer has, some with low bits that would be too short.
-const LENGTHS_BEYOND_MEMORY: [usize; 4] = [1 << 32, (1 << 32) + 64, 1 << 63, usize::MAX];
 
 /// Lengths of data, hardly ever the longest.
 pub const SHORT_DATA: &[usize] = &[0, 1, 2, 30, 63, 64, 65, 1_000];
@@ -41,13 +35,22 @@ impl Calls<'_> {
 
     /// A call that suits the tables, one in three spoiled, in one thing or in several.
     pub fn any(&mut self, relay: &Relay, now: u64) -> Call {
-        let connection = self.random.below(CONNECTIONS);
+        let connection = self.any_connection(relay);
         let data = if self.random.one_in(20) { LONG_DATA } else { SHORT_DATA };
         let mut call = self.suitable(relay, now, connection, data);
         while self.random.one_in(3) {
             self.spoil(&mut call, relay.clock());
         }
         call
+    }
+
+    /// A connection, more often than the tables have it one in a session.
+    fn any_connection(&mut self, relay: &Relay) -> usize {
+        let connection = self.random.below(CONNECTIONS);
+        if relay.in_session_with(connection).is_none() && self.random.one_in(2) {
+            return self.random.below(CONNECTIONS);
+        }
+        connection
     }
 
     /// The tables, at times with a level near the call's cost or with a table of another size.
@@ -67,6 +70,7 @@ impl Calls<'_> {
         let random = self.random_bytes(relay, now, connection);
         let bytes = match relay.connections[connection].state() {
             _ if self.random.one_in(14) => return Call { now, kind: close(connection) },
+            _ if self.random.one_in(9) => return Call { now, kind: keepalive(connection) },
             State::Closed if !self.random.one_in(10) => return Call { now, kind: open(connection) },
             State::Awaiting if !self.random.one_in(10) => vec![1, u8::from(!self.random.one_in(8))],
             _ => self.message(relay, connection, data),
@@ -76,7 +80,7 @@ impl Calls<'_> {
 
     /// As much data as the allowance lets pass or a byte more, or much, from a connection of the partner in a session.
     pub fn flood(&mut self, relay: &Relay, now: u64, partner: usize) -> Option<Call> {
-        let sender = (partner * 8..partner * 8 + 8).find(|&connection| relay.in_session_with(connection).is_some())?;
+        let sender = connections_of(partner).find(|&connection| relay.in_session_with(connection).is_some())?;
         let level = relay.allowances[partner].level_at(now) as usize;
         let left = level.saturating_sub(BASE_COST as usize + 1);
         let lengths = [left.min(DATA_LIMIT), (left + 1).min(DATA_LIMIT), self.random.choice(LONG_DATA)];
@@ -89,17 +93,49 @@ impl Calls<'_> {
         (!holders.is_empty()).then(|| Call { now, kind: close(self.random.choice(&holders)) })
     }
 
+    /// A keepalive call for a connection of the partner, at or around the time when something is due for it.
+    pub fn keepalive_when_due(&mut self, relay: &Relay, now: u64, partner: usize) -> Option<Call> {
+        let in_session = self.random.one_in(2);
+        let suits = |&connection: &usize| match relay.connections[connection].state() {
+            State::Closed => false,
+            _ => !in_session || relay.in_session_with(connection).is_some(),
+        };
+        let connections: Vec<usize> = connections_of(partner).filter(suits).collect();
+        if connections.is_empty() {
+            return None;
+        }
+        let connection = self.random.choice(&connections);
+        let record = &relay.connections[connection];
+        let due = if record.is_unanswered() { record.asked + ANSWER_TIMEOUT } else { record.sent + KEEPALIVE_TIMEOUT };
+        let time = self.random.choice(&[due - 1, due, due, due + 1]);
+        Some(Call { now: time.clamp(now, TIME_LIMIT - 1), kind: keepalive(connection) })
+    }
+
+    /// Data for a connection of the partner that has not answered a keepalive, or at times its end of the session.
+    pub fn data_for_silent(&mut self, relay: &Relay, now: u64, partner: usize) -> Option<Call> {
+        let silent = connections_of(partner).filter(|&connection| relay.connections[connection].is_unanswered());
+        let pairs = silent.filter_map(|connection| Some((connection, relay.in_session_with(connection)?)));
+        let pairs: Vec<(usize, usize)> = pairs.collect();
+        if pairs.is_empty() {
+            return None;
+        }
+        let (silent, other) = self.random.choice(&pairs);
+        let ends = self.random.one_in(20);
+        let (sender, bytes) = if ends { (silent, vec![9]) } else { (other, self.data(SHORT_DATA)) };
+        Some(Call { now, kind: message(sender, bytes, self.any_random_bytes()) })
+    }
+
     /// A message for an open connection.
     fn message(&mut self, relay: &Relay, connection: usize, data: &[usize]) -> Vec<u8> {
         let in_session = relay.in_session_with(connection).is_some();
-        match self.random.below(24) {
+        match self.random.below(25) {
             0..3 => vec![2, 0],
             3..8 => [&[2, 1], &self.old_cookie(relay, connection)[..]].concat(),
             8..11 => [&[4], &self.held_cookie(relay, connection)[..]].concat(),
             11..16 => [&[6], &self.id(relay, connection).to_be_bytes()[..]].concat(),
             16..20 if in_session || self.random.one_in(3) => self.data(data),
-            20 if in_session || self.random.one_in(3) => vec![9],
-            21 => vec![1, 1],
+            20 | 21 if in_session || self.random.one_in(3) => vec![9],
+            22 => vec![1, 1],
             _ => vec![13],
         }
     }
@@ -185,109 +221,30 @@ impl Calls<'_> {
         }
     }
 
-    fn any_random_bytes(&mut self) -> Vec<u8> {
+    pub(super) fn any_random_bytes(&mut self) -> Vec<u8> {
         self.random.part(self.pool, RANDOM).to_vec()
-    }
-
-    /// Changes one thing that the call brings, so that some check may refuse it.
-    pub fn spoil(&mut self, call: &mut Call, clock: u64) {
-        match self.random.below(6) {
-            0 => call.now = self.odd_time(call.now, clock),
-            1 => call.kind = self.any_kind(),
-            2 => self.spoil_connection(&mut call.kind),
-            3 => self.spoil_message(&mut call.kind),
-            _ => self.spoil_buffer(&mut call.kind),
-        }
-    }
-
-    fn odd_time(&mut self, now: u64, clock: u64) -> u64 {
-        match self.random.below(3) {
-            0 => self.random.choice(&TIMES_TOO_LATE),
-            1 => self.random.choice(&[0, clock.saturating_sub(1)]),
-            _ => now,
-        }
-    }
-
-    /// An open, a message or a close of any connection, whatever its state.
-    fn any_kind(&mut self) -> Kind {
-        let connection = self.random.below(CONNECTIONS);
-        match self.random.below(3) {
-            0 => open(connection),
-            1 => close(connection),
-            _ => message(connection, self.any_message(), self.any_random_bytes()),
-        }
-    }
-
-    /// A message of any form, peers' or not.
-    fn any_message(&mut self) -> Vec<u8> {
-        let messages = forms::one_of_each(self.random, self.pool);
-        encode(&self.random.choice::<Message>(&messages)).expect("a message whose fields are in range")
-    }
-
-    fn spoil_connection(&mut self, kind: &mut Kind) {
-        if let Kind::Open { connection, .. } | Kind::Message { connection, .. } | Kind::Close { connection, .. } = kind
-        {
-            *connection = self.random.choice(&NO_CONNECTIONS);
-        }
-    }
-
-    /// Another message, or the same with one byte changed, one fewer or one more.
-    fn spoil_message(&mut self, kind: &mut Kind) {
-        let another = self.any_message();
-        if let Kind::Message { message, relay, .. } = kind {
-            match self.random.below(5) {
-                0 => *message = another,
-                1 => message.push(0),
-                2 => drop(message.pop()),
-                3 if !message.is_empty() => {
-                    let place = self.random.below(message.len().min(4));
-                    message[place] = self.random.choice(&[0, 1, 2, 5, 9, 14, 255]);
-                }
-                _ => message.clear(),
-            }
-            *relay = BUFFER.max(message.len());
-        }
-    }
-
-    /// Gives a buffer, at times, a length that none has.
-    pub fn lengthen(&mut self, call: &mut Call) {
-        if !self.random.one_in(6) {
-            return;
-        }
-        let length = self.random.choice(&LENGTHS_BEYOND_MEMORY);
-        match &mut call.kind {
-            Kind::Fresh => {}
-            Kind::Open { reply: room, .. } | Kind::Close { relay: room, .. } => *room = length,
-            Kind::Message { reply, relay, .. } => *(if self.random.one_in(2) { reply } else { relay }) = length,
-        }
-    }
-
-    /// One byte too few or too many of what must have a length.
-    fn spoil_buffer(&mut self, kind: &mut Kind) {
-        let near =
-            |random: &mut Random, length: usize| random.choice(&[length.saturating_sub(1), length + 1, length + 40, 0]);
-        match kind {
-            Kind::Fresh => {}
-            Kind::Open { reply: room, .. } | Kind::Close { relay: room, .. } => *room = near(self.random, *room),
-            Kind::Message { random, reply, relay, .. } => match self.random.below(3) {
-                0 => random.resize(near(self.random, RANDOM), 7),
-                1 => *reply = near(self.random, *reply),
-                _ => *relay = near(self.random, *relay),
-            },
-        }
     }
 }
 
-fn open(connection: usize) -> Kind {
+/// The connections of a partner.
+pub(super) fn connections_of(partner: usize) -> impl Iterator<Item = usize> {
+    (0..CONNECTIONS).filter(move |&connection| partner_of(connection) == partner)
+}
+
+pub(super) fn open(connection: usize) -> Kind {
     Kind::Open { connection: connection as u64, reply: BUFFER }
 }
 
-fn close(connection: usize) -> Kind {
+pub(super) fn close(connection: usize) -> Kind {
     Kind::Close { connection: connection as u64, relay: BUFFER }
 }
 
+pub(super) fn keepalive(connection: usize) -> Kind {
+    Kind::Keepalive { connection: connection as u64, reply: BUFFER, relay: BUFFER }
+}
+
 /// A message with buffers that are just long enough.
-fn message(connection: usize, message: Vec<u8>, random: Vec<u8>) -> Kind {
+pub(super) fn message(connection: usize, message: Vec<u8>, random: Vec<u8>) -> Kind {
     let relay = BUFFER.max(message.len());
     Kind::Message { connection: connection as u64, message, random, reply: BUFFER, relay }
 }

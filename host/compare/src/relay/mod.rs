@@ -1,9 +1,14 @@
-//! The proved relay and the second one: calls to make of both, what they reach, and a monitor of the allowances.
+//! The proved relay and the second one: calls to make of both, what they reach, and monitors of the allowances and of dead
+//! connections.
 
 pub mod agree;
 pub mod boundary;
 pub mod calls;
+pub mod compared;
+pub mod connection_monitor;
+pub mod keepalives;
 pub mod leases;
+mod mistakes;
 pub mod monitor;
 pub mod reached;
 pub mod runs;

@@ -50,7 +50,7 @@ fn passes(relay: &Relay, call: &Call) -> bool {
 }
 
 /// What is wrong with a history.
-pub struct Fault(String);
+pub struct Fault(pub(super) String);
 
 impl fmt::Debug for Fault {
     fn fmt(&self, out: &mut fmt::Formatter) -> fmt::Result {

@@ -6,6 +6,7 @@ use model::{Relay, Request, Tables, PARTNERS};
 
 use super::agree::Outcome;
 use super::boundary::{Call, Kind};
+use super::keepalives::{Found, Outcomes};
 use super::leases::{self, Asked, LastHolders};
 use crate::tally::Tally;
 
@@ -21,7 +22,7 @@ const EFFECTS: [&str; 14] = [
     "session ended",
     "data relayed",
     "longest data relayed",
-    "keepalive",
+    "keepalive sent by a peer",
     "closed awaiting",
     "closed in session",
     "closed without session",
@@ -37,14 +38,19 @@ pub struct Reached {
     answers: Tally,
     /// How often accepted calls had each effect; a call may have several.
     effects: Tally,
+    /// What concerns keepalives.
+    keepalives: Found,
 }
 
 impl Reached {
     /// Counts a call that was made on these tables, by its answer and its effects.
     pub fn count(&mut self, tables: &Tables, call: &Call, outcome: &Outcome) {
         self.answers.count(call.name(), outcome.answer.number);
-        if let (0, Some(relay), Some(caller)) = (outcome.answer.number, Relay::decode(tables), call.caller()) {
-            count_effects(&mut self.effects, &relay, call, caller, outcome);
+        if let (Some(relay), Some(caller)) = (Relay::decode(tables), call.caller()) {
+            self.keepalives.count(&relay, call, caller, outcome);
+            if outcome.answer.number == 0 {
+                count_effects(&mut self.effects, &relay, call, caller, outcome);
+            }
         }
     }
 
@@ -55,8 +61,9 @@ impl Reached {
         }
     }
 
-    /// Asserts that each function had just these answers, and that all effects were reached, these among them.
-    pub fn assert_all(&self, answers: &[(&str, &[u32])], further: &[&str]) {
+    /// Asserts that each function had just these answers, and that all effects were reached, these and these outcomes of
+    /// keepalives among them.
+    pub fn assert_all(&self, answers: &[(&str, &[u32])], further: &[&str], keepalives: &[Outcomes]) {
         println!("{self}");
         self.answers.assert_just(answers);
         for status in 0..=5 {
@@ -65,13 +72,14 @@ impl Reached {
         for name in EFFECTS.iter().chain(&leases::EVERYWHERE).chain(further) {
             self.effects.assert_reached(name, 0, true);
         }
+        self.keepalives.assert_reached(keepalives);
     }
 }
 
 impl fmt::Display for Reached {
     fn fmt(&self, out: &mut fmt::Formatter) -> fmt::Result {
         self.effects.write_rows(out)?;
-        writeln!(out)?;
+        writeln!(out, "\n{}", self.keepalives)?;
         self.answers.fmt(out)
     }
 }
@@ -86,6 +94,7 @@ fn count_effects(effects: &mut Tally, relay: &Relay, call: &Call, caller: usize,
         }
         Kind::Close { .. } => count_close(effects, relay, caller, outcome),
         Kind::Open { .. } | Kind::Fresh => effects.count("opened", 0),
+        Kind::Keepalive { .. } => {}
     }
     let spent = |partner: usize| relay.allowances[partner].level_at(call.now) < model::BASE_COST;
     if call.cost().is_some() && (0..PARTNERS).any(spent) {
@@ -105,7 +114,7 @@ fn count_request(effects: &mut Tally, request: Request, outcome: &Outcome) {
         Request::SessionEnd => "session ended",
         Request::Data { .. } if outcome.relay().len() == 1 + codec::DATA_LIMIT => "longest data relayed",
         Request::Data { .. } => "data relayed",
-        Request::Keepalive => "keepalive",
+        Request::Keepalive => "keepalive sent by a peer",
     };
     effects.count(name, 0);
 }

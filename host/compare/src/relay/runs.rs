@@ -2,11 +2,12 @@
 
 use std::collections::HashSet;
 
-use engine::relay::{ALLOWANCES, CONNECTIONS, LEASES};
+use engine::relay::{Answer, ALLOWANCES, CONNECTIONS, LEASES};
 use model::{Relay, Tables, PARTNERS, TIME_LIMIT};
 
 use super::boundary::{Boundary, Call, Kind, Lent};
-use super::calls::{Calls, LONG_DATA, SHORT_DATA};
+use super::calls::{connections_of, Calls, LONG_DATA, SHORT_DATA};
+use super::connection_monitor::ConnectionMonitor;
 use super::monitor::{Entry, Fault, Monitor};
 
 /// How the clock goes between two calls.
@@ -29,6 +30,8 @@ pub struct Run {
     flooding: Option<usize>,
     /// Whether holders of leases often lose their connections, so that the leases are left to who comes back.
     power_cuts: bool,
+    /// Whether there are many keepalive calls, when something is due.
+    keepalives: bool,
     /// So many partners, from the first, make calls; the fewer, the more each has of them.
     partners: usize,
 }
@@ -42,6 +45,7 @@ impl Run {
             clock: random.choice(&[Clock::Stands, Clock::Creeps, Clock::Steps, Clock::Jumps, Clock::Jumps]),
             flooding: (!random.one_in(3)).then(|| random.below(partners)),
             power_cuts: random.one_in(3),
+            keepalives: random.one_in(2),
             partners,
         }
     }
@@ -60,14 +64,48 @@ impl Run {
             Some(partner) if calls.random.one_in(2) => self.flooding_call(calls, relay, now, partner),
             _ => {
                 let partner = calls.random.below(self.partners);
-                let cut = (self.power_cuts && calls.random.one_in(6)).then(|| calls.cut(relay, now, partner));
-                cut.flatten().unwrap_or_else(|| any_call_of(calls, relay, now, partner, SHORT_DATA))
+                let special = self.special_call(calls, relay, now, partner);
+                special.unwrap_or_else(|| any_call_of(calls, relay, now, partner, SHORT_DATA))
             }
         };
         while calls.random.one_in(6) {
             calls.spoil(&mut call, relay.clock());
         }
         call
+    }
+
+    /// Makes the fresh start and then so many calls of one relay by itself, each shown with the relay before and after.
+    fn alone(
+        &self,
+        subject: &impl Boundary,
+        calls: &mut Calls,
+        length: usize,
+        mut show: impl FnMut(&Relay, &Call, &Answer, &Relay) -> Result<(), Fault>,
+    ) -> Result<(), Fault> {
+        let (start, anything) = self.start(calls);
+        let mut lent = Lent::new(&anything, &start);
+        subject.call(&start, &mut lent);
+        for _ in 0..length {
+            let tables = lent.tables();
+            let before = decoded(&tables);
+            let call = self.next(calls, &before);
+            lent = Lent::new(&tables, &call);
+            let answer = subject.call(&call, &mut lent);
+            show(&before, &call, &answer, &decoded(&lent.tables()))?;
+        }
+        Ok(())
+    }
+
+    /// At times a call that this kind of run has more of than others.
+    fn special_call(&self, calls: &mut Calls, relay: &Relay, now: u64, partner: usize) -> Option<Call> {
+        if self.power_cuts && calls.random.one_in(6) {
+            return calls.cut(relay, now, partner);
+        }
+        match calls.random.below(8) {
+            0 if self.keepalives => calls.keepalive_when_due(relay, now, partner),
+            1 | 2 if self.keepalives => calls.data_for_silent(relay, now, partner),
+            _ => None,
+        }
     }
 
     fn flooding_call(&self, calls: &mut Calls, relay: &Relay, now: u64, partner: usize) -> Call {
@@ -91,27 +129,29 @@ impl Run {
 
 /// A call of one of the partner's connections.
 fn any_call_of(calls: &mut Calls, relay: &Relay, now: u64, partner: usize, data: &[usize]) -> Call {
-    let connection = partner * 8 + calls.random.below(8);
+    let connections: Vec<usize> = connections_of(partner).collect();
+    let mut connection = calls.random.choice(&connections);
+    // Who has not answered mostly stays silent.
+    if relay.connections[connection].is_unanswered() && !calls.random.one_in(3) {
+        connection = calls.random.choice(&connections);
+    }
     calls.suitable(relay, now, connection, data)
 }
 
-/// Makes a run of one relay by itself, followed by the monitor.
+/// Makes a run of one relay by itself, followed by the monitor of the allowances.
 pub fn follow(subject: &impl Boundary, calls: &mut Calls, length: usize) -> Result<(), Fault> {
     let run = Run::any(calls);
-    let (start, mut tables) = run.start(calls);
-    let mut lent = Lent::new(&tables, &start);
-    subject.call(&start, &mut lent);
-    let mut monitor = Monitor::new(start.now);
-    for _ in 0..length {
-        tables = lent.tables();
-        let relay = decoded(&tables);
-        let call = run.next(calls, &relay);
-        lent = Lent::new(&tables, &call);
-        let answer = subject.call(&call, &mut lent);
-        monitor.record(&Entry::new(&relay, &call, answer.number))?;
-        monitor.check_levels(&decoded(&lent.tables()))?;
-    }
-    Ok(())
+    let mut monitor = Monitor::new(run.start);
+    run.alone(subject, calls, length, |before, call, answer, after| {
+        monitor.record(&Entry::new(before, call, answer.number))?;
+        monitor.check_levels(after)
+    })
+}
+
+/// Makes a run of one relay by itself, followed by the monitor of dead connections.
+pub fn follow_connections(subject: &impl Boundary, calls: &mut Calls, length: usize) -> Result<(), Fault> {
+    let mut monitor = ConnectionMonitor::default();
+    Run::any(calls).alone(subject, calls, length, |_, call, answer, _| monitor.record(call, answer))
 }
 
 /// An id that two live rows have: no run may come to that.
@@ -119,6 +159,12 @@ pub fn doubled_id(relay: &Relay) -> Option<u32> {
     let live = relay.leases.iter().filter(|lease| lease.is_live(relay.clock()));
     let mut ids = HashSet::new();
     live.map(|lease| lease.id).find(|&id| !ids.insert(id))
+}
+
+/// A connection whose record has something in bytes that nobody uses: no run may come to that.
+pub fn unused_bytes(tables: &Tables) -> Option<usize> {
+    let mut records = tables.connections.chunks_exact(tables.connections.len() / model::CONNECTIONS);
+    records.position(|record| [3, 14, 15].iter().any(|&byte| record[byte] != 0))
 }
 
 /// The tables of a run as records.

@@ -1,6 +1,6 @@
 //! Tables from anywhere: random bytes, and nearly valid ones whose fields stand at the edges.
 
-use model::{Relay, Tables, CONNECTIONS, LEASES, LEVEL_LIMIT, PARTNERS, TIME_LIMIT};
+use model::{Relay, Tables, ANSWER_TIMEOUT, CONNECTIONS, KEEPALIVE_TIMEOUT, LEASES, LEVEL_LIMIT, PARTNERS, TIME_LIMIT};
 
 use crate::random::Random;
 
@@ -34,7 +34,7 @@ fn random_bytes(random: &mut Random) -> Tables {
 }
 
 fn nearly_valid(random: &mut Random, now: u64) -> Tables {
-    let mut connections: Vec<u8> = (0..CONNECTIONS).flat_map(|number| connection(random, number)).collect();
+    let mut connections: Vec<u8> = (0..CONNECTIONS).flat_map(|number| connection(random, number, now)).collect();
     for _ in 0..random.below(40) {
         name_each_other(random, &mut connections);
     }
@@ -45,7 +45,7 @@ fn nearly_valid(random: &mut Random, now: u64) -> Tables {
     Tables { connections, leases, allowances }
 }
 
-fn connection(random: &mut Random, number: usize) -> Vec<u8> {
+fn connection(random: &mut Random, number: usize, now: u64) -> Vec<u8> {
     let state = random.mostly(2, &[0, 1, 1, 3, 255]);
     let peer = match random.below(4) {
         0 => 255,
@@ -54,9 +54,38 @@ fn connection(random: &mut Random, number: usize) -> Vec<u8> {
         _ => random.byte(),
     };
     let mut record = vec![state, peer];
-    record.extend(zeros_or_bytes(random, 14));
+    record.extend(keepalive_bytes(random, now));
     record.extend(zeros_or_bytes(random, 48));
     record
+}
+
+/// Bytes 2 to 15: whether a keepalive is unanswered, and when the connection was last sent something and asked.
+fn keepalive_bytes(random: &mut Random, now: u64) -> Vec<u8> {
+    let any = random.byte();
+    let mut bytes = vec![random.choice(&[0, 0, 1, 1, 1, 2, 255, any])];
+    bytes.extend(zeros_or_bytes(random, 1));
+    for (limit, other) in [(KEEPALIVE_TIMEOUT, ANSWER_TIMEOUT), (ANSWER_TIMEOUT, KEEPALIVE_TIMEOUT)] {
+        let limit = random.mostly(limit, &[other]);
+        bytes.extend(&time_near(random, now, limit).to_be_bytes()[3..]);
+    }
+    bytes.extend(zeros_or_bytes(random, 2));
+    bytes
+}
+
+/// A time below the limit of times: mostly as long ago as this limit is, or a second more or less; else not so long ago, now
+/// or later, longer ago, or any.
+fn time_near(random: &mut Random, now: u64, limit: u64) -> u64 {
+    let ago = |seconds: u64| now.saturating_sub(seconds);
+    let later = [now.saturating_add(1), now.saturating_add(limit), TIME_LIMIT - 1];
+    let time = match random.below(9) {
+        0..4 => ago(random.choice(&[limit - 1, limit, limit + 1])),
+        4 => ago(1 + random.below(limit as usize - 2) as u64),
+        5 => now,
+        6 => random.choice(&later),
+        7 => random.choice(&[0, now / 2, now ^ (1 << 32), ago(2 * limit)]),
+        _ => random.number() % TIME_LIMIT,
+    };
+    time.min(TIME_LIMIT - 1)
 }
 
 /// Makes two connections name each other: mostly two of one partner, at times one and the same.

@@ -7,32 +7,12 @@ mod overlooked;
 use compare::difference::Difference;
 use compare::relay::boundary::{Boundary, Lent};
 use compare::relay::calls::Calls;
+use compare::relay::compared::{self, CALLS_OF_EACH, RUNS};
 use compare::relay::runs::{decoded, doubled_id, Run};
-use compare::relay::{agree, single};
 use compare::{amount, forms};
 use leasing::{Leasing, RIGHT};
 use model::Part;
 use overlooked::{Overlooked, SPOILED_RENEWALS, WRONG_ACCEPTED, WRONG_NEW, WRONG_RENEWABLE, WRONG_RENEWED};
-
-const CALLS: u64 = 120_000;
-const RUNS: u64 = 250;
-const CALLS_OF_EACH: usize = 500;
-
-/// Makes single calls, as many as of the compiled relay, until one differs.
-fn compare_calls(subject: &Leasing) -> Result<(), Difference> {
-    let mut random = amount::random();
-    let pool = forms::pool(&mut random);
-    let mut calls = Calls { random: &mut random, pool: &pool };
-    single::calls(&mut calls, amount::rounds(CALLS), |_, tables, call| agree::call(subject, tables, &call).map(drop))
-}
-
-/// Makes runs, as many as of the compiled relay, until a call differs.
-fn compare_runs(subject: &Leasing) -> Result<(), Difference> {
-    let mut random = amount::random();
-    let pool = forms::pool(&mut random);
-    let mut calls = Calls { random: &mut random, pool: &pool };
-    (0..amount::rounds(RUNS)).try_for_each(|_| compare_run(subject, &mut calls))
-}
 
 /// Whether one of as many runs of this relay by itself comes to two live rows with one id.
 fn doubles_an_id(subject: &Leasing) -> bool {
@@ -56,31 +36,20 @@ fn run_doubles_an_id(subject: &Leasing, calls: &mut Calls) -> bool {
     })
 }
 
-fn compare_run(subject: &Leasing, calls: &mut Calls) -> Result<(), Difference> {
-    let run = Run::any(calls);
-    let (start, anything) = run.start(calls);
-    let mut tables = agree::call(subject, &anything, &start)?.lent.tables();
-    for _ in 0..CALLS_OF_EACH {
-        let call = run.next(calls, &decoded(&tables));
-        tables = agree::call(subject, &tables, &call)?.lent.tables();
-    }
-    Ok(())
-}
-
 /// Each relay that overlooks one of these must differ from the right one in single calls, and in runs where it can.
 fn assert_noticed<T: Copy>(overlooked: &[Overlooked<T>], leasing: fn(T) -> Leasing) {
     for &(what, in_runs, instead) in overlooked {
-        compare_calls(&leasing(instead)).expect_err(what);
+        compared::calls(&leasing(instead)).expect_err(what);
         if in_runs {
-            compare_runs(&leasing(instead)).expect_err(what);
+            compared::runs(&leasing(instead)).expect_err(what);
         }
     }
 }
 
 #[test]
 fn as_the_papers_say() -> Result<(), Difference> {
-    compare_calls(&RIGHT)?;
-    compare_runs(&RIGHT)
+    compared::calls(&RIGHT)?;
+    compared::runs(&RIGHT)
 }
 
 #[test]

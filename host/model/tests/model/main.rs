@@ -1,5 +1,6 @@
 //! The second relay, on the papers' examples.
 
+mod keepalives;
 mod reasons;
 mod renewals;
 mod support;

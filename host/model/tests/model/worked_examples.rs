@@ -1,4 +1,4 @@
-//! The scope's twelve worked examples, by their numbers there, through the four calls.
+//! The scope's twelve worked examples, by their numbers there, through the calls.
 
 use model::{close, fresh, open, Answer, Relay, Tables, LEVEL_LIMIT, NOBODY, TIME_LIMIT};
 

@@ -1,0 +1,38 @@
+//! As many calls of a relay as are made of the compiled one, each compared, until one differs.
+
+use super::boundary::Boundary;
+use super::calls::Calls;
+use super::runs::{decoded, Run};
+use super::{agree, single};
+use crate::difference::Difference;
+use crate::{amount, forms};
+
+/// Single calls, runs, and calls of each run.
+pub const CALLS: u64 = 150_000;
+pub const RUNS: u64 = 300;
+pub const CALLS_OF_EACH: usize = 500;
+
+pub fn calls(subject: &impl Boundary) -> Result<(), Difference> {
+    let mut random = amount::random();
+    let pool = forms::pool(&mut random);
+    let mut calls = Calls { random: &mut random, pool: &pool };
+    single::calls(&mut calls, amount::rounds(CALLS), |_, tables, call| agree::call(subject, tables, &call).map(drop))
+}
+
+pub fn runs(subject: &impl Boundary) -> Result<(), Difference> {
+    let mut random = amount::random();
+    let pool = forms::pool(&mut random);
+    let mut calls = Calls { random: &mut random, pool: &pool };
+    (0..amount::rounds(RUNS)).try_for_each(|_| run(subject, &mut calls))
+}
+
+fn run(subject: &impl Boundary, calls: &mut Calls) -> Result<(), Difference> {
+    let run = Run::any(calls);
+    let (start, anything) = run.start(calls);
+    let mut tables = agree::call(subject, &anything, &start)?.lent.tables();
+    for _ in 0..CALLS_OF_EACH {
+        let call = run.next(calls, &decoded(&tables));
+        tables = agree::call(subject, &tables, &call)?.lent.tables();
+    }
+    Ok(())
+}

@@ -1,0 +1,157 @@
+//! Every function of the relay with every kind of argument, those of one call in every combination: sizes of tables, times,
+//! connection numbers, lengths of buffers, messages and random bytes. Each call is explained, too.
+
+use compare::difference::Difference;
+use compare::reasons::{agree, truth};
+use compare::relay;
+use compare::relay::boundary::{Call, Kind, Proved};
+use compare::tally::Tally;
+use engine::relay::{BUFFER, RANDOM};
+use model::{Relay, State, Tables, CONNECTIONS, TIME_LIMIT};
+
+/// The latest time in the tables.
+const CLOCK: u64 = 1_000;
+const TIMES: [u64; 10] =
+    [0, CLOCK - 1, CLOCK, CLOCK + 1, CLOCK + 30, CLOCK + 60, TIME_LIMIT - 1, TIME_LIMIT, 1 << 63, u64::MAX];
+
+/// Six connections in different states, and numbers that none has.
+const NUMBERS: [u64; 13] = [
+    IN_SESSION,
+    IN_SESSION + 1,
+    SILENT,
+    AWAITING,
+    CLOSED,
+    LAST,
+    LAST + 1,
+    255,
+    256,
+    1 << 32,
+    (1 << 32) + IN_SESSION,
+    1 << 63,
+    u64::MAX,
+];
+const IN_SESSION: u64 = 0;
+const SILENT: u64 = 2;
+const AWAITING: u64 = 3;
+const CLOSED: u64 = 4;
+const LAST: u64 = CONNECTIONS as u64 - 1;
+
+/// Lengths of a buffer.
+const ROOMS: [usize; 5] = [0, 1, BUFFER - 1, BUFFER, BUFFER + 1];
+const RANDOM_LENGTHS: [usize; 4] = [0, RANDOM - 1, RANDOM, RANDOM + 1];
+
+fn messages() -> Vec<Vec<u8>> {
+    vec![vec![], vec![13], vec![9], vec![1, 1], vec![2, 0], vec![3, 0], vec![11; BUFFER + 1]]
+}
+
+/// Connections 0 and 1 in a session, 2 silent since it was asked, 3 awaiting, 4 closed, the last one open.
+fn tables() -> Tables {
+    let mut relay = Relay::fresh(CLOCK);
+    for open in [IN_SESSION, IN_SESSION + 1, SILENT, LAST] {
+        relay.connections[open as usize].set_state(State::Open);
+    }
+    (relay.connections[0].peer, relay.connections[1].peer) = (1, 0);
+    for (number, record) in relay.connections.iter_mut().enumerate() {
+        record.sent = CLOCK - number as u64 % 40;
+    }
+    let silent = &mut relay.connections[SILENT as usize];
+    (silent.unanswered, silent.asked) = (1, CLOCK - 30);
+    relay.connections[AWAITING as usize].set_state(State::Awaiting);
+    relay.encode()
+}
+
+type Table = fn(&mut Tables) -> &mut Vec<u8>;
+type Size = fn(usize) -> usize;
+
+/// The tables, one of them with another size.
+fn of_other_sizes() -> Vec<Tables> {
+    let all: [Table; 3] =
+        [|tables| &mut tables.connections, |tables| &mut tables.leases, |tables| &mut tables.allowances];
+    let sizes: [Size; 4] = [|_| 0, |right| right - 1, |right| right + 1, |right| 2 * right];
+    let resized = |(table, size): (Table, Size)| {
+        let mut tables = tables();
+        let right = table(&mut tables).len();
+        table(&mut tables).resize(size(right), 0);
+        tables
+    };
+    pairs(all, sizes).map(resized).collect()
+}
+
+/// Every call of a connection but messages.
+fn calls(connection: u64) -> Vec<Kind> {
+    let opens = ROOMS.map(|reply| Kind::Open { connection, reply });
+    let closes = ROOMS.map(|relay| Kind::Close { connection, relay });
+    let keepalives = pairs(ROOMS, ROOMS).map(|(reply, relay)| Kind::Keepalive { connection, reply, relay });
+    opens.into_iter().chain(closes).chain(keepalives).collect()
+}
+
+fn messages_of(connection: u64) -> Vec<Kind> {
+    let mut all = Vec::new();
+    for message in messages() {
+        for (reply, relay) in pairs(ROOMS, ROOMS) {
+            let with = |length| {
+                let (message, random) = (message.clone(), vec![9; length]);
+                Kind::Message { connection, message, random, reply, relay }
+            };
+            all.extend(RANDOM_LENGTHS.map(with));
+        }
+    }
+    all
+}
+
+fn pairs<A: Copy, B: Copy, const M: usize, const N: usize>(
+    left: [A; M],
+    right: [B; N],
+) -> impl Iterator<Item = (A, B)> {
+    left.into_iter().flat_map(move |one| right.into_iter().map(move |other| (one, other)))
+}
+
+/// Makes the call, explained before if it is one of a connection.
+fn compare(answers: &mut Tally, tables: &Tables, call: &Call) -> Result<(), Difference> {
+    if !matches!(call.kind, Kind::Fresh) {
+        let reason = agree::explain(&Proved, tables, call)?;
+        truth::check(&Proved, tables, call, &reason)?;
+    }
+    let outcome = relay::agree::call(&Proved, tables, call)?;
+    answers.count(call.name(), outcome.answer.number);
+    Ok(())
+}
+
+#[test]
+fn all_arguments() -> Result<(), Difference> {
+    let (mut answers, tables) = (Tally::default(), tables());
+    for now in TIMES {
+        compare(&mut answers, &tables, &Call { now, kind: Kind::Fresh })?;
+        for kind in NUMBERS.into_iter().flat_map(|connection| [calls(connection), messages_of(connection)].concat()) {
+            compare(&mut answers, &tables, &Call { now, kind })?;
+        }
+    }
+    println!("{answers}");
+    answers.assert_just(&[
+        ("fresh", &[0, 2]),
+        ("open", &[0, 2, 3, 4, 5]),
+        ("message", &[0, 2, 3, 4, 5, 6, 7, 8]),
+        ("close", &[0, 2, 3, 4, 5]),
+        ("keepalive", &[0, 2, 3, 4, 5]),
+    ]);
+    Ok(())
+}
+
+#[test]
+fn tables_of_other_sizes() -> Result<(), Difference> {
+    let mut answers = Tally::default();
+    for tables in of_other_sizes() {
+        for now in TIMES {
+            compare(&mut answers, &tables, &Call { now, kind: Kind::Fresh })?;
+            for kind in NUMBERS.into_iter().flat_map(calls) {
+                compare(&mut answers, &tables, &Call { now, kind })?;
+            }
+        }
+        for kind in messages_of(IN_SESSION) {
+            compare(&mut answers, &tables, &Call { now: CLOCK, kind })?;
+        }
+    }
+    println!("{answers}");
+    answers.assert_just(&["fresh", "open", "message", "close", "keepalive"].map(|name| (name, &[1][..])));
+    Ok(())
+}
