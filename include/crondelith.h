@@ -28,7 +28,8 @@ extern "C" {
  *   3 connection 64 or more                9 costs more than the partner has left
  *   4 open: not closed; else: closed
  *   5 a buffer too short, or not 80 random bytes
- * A keepalive has checks 1 to 5, as a close has, but with both buffers at least CRONDELITH_BUFFER long. Making a fresh relay has 1 and the first half of 2 alone. Times are whole seconds.
+ * A keepalive has 1 to 5, as a close has, but with both buffers at least CRONDELITH_BUFFER long. Making a fresh relay has 1 and the first
+ * half of 2 alone. Times are whole seconds.
  * A refused call changes no byte and answers 0, 0, CRONDELITH_NOBODY, 0.
  */
 typedef struct {
