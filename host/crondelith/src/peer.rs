@@ -10,7 +10,7 @@ use clap::{value_parser, Args, Subcommand};
 use codec::DATA_LIMIT;
 use peer::{
     confirm, receive_contents, send_contents, CookieFile, Error, Fingerprint, Meter, PartFile, Patience, Peer,
-    Progress, RelayAddress, SourceFile, SystemDisk, MESSAGE_SIZE,
+    Progress, RelayAddress, SourceFile, SystemDisk, MESSAGE_SIZE, SILENCE,
 };
 use server::PARTNERS;
 
@@ -242,8 +242,10 @@ impl Options {
     fn connect(&self, port: u16, watch: &Watch) -> Result<Peer, Failure> {
         let host = self.relay.host();
         let peer = Peer::connect((host, port));
-        let peer = peer.map_err(|error| Failure::Failed(format!("{host} port {port}: {error}")))?;
+        let mut peer = peer.map_err(|error| Failure::Failed(format!("{host} port {port}: {error}")))?;
         watch.connected(peer.closer());
+        // A disk or a terminal may make it wait.
+        peer.keep_alive(SILENCE).map_err(failed)?;
         Ok(peer)
     }
 
