@@ -46,7 +46,8 @@ impl Tables {
         reasons::Tables { connections, leases, allowances }
     }
 
-    fn lend(&mut self) -> relay::Tables<'_> {
+    /// For a call.
+    pub fn lend(&mut self) -> relay::Tables<'_> {
         let (connections, rest) = self.0.split_at_mut(relay::CONNECTIONS);
         let (leases, allowances) = rest.split_at_mut(relay::LEASES);
         relay::Tables { connections, leases, allowances }
