@@ -96,9 +96,14 @@ impl Connection {
         }
     }
 
+    /// Whether the engine has opened it, and hasn't closed it.
+    pub fn is_opened(&self) -> bool {
+        matches!(self.phase, Phase::Greeted | Phase::Open)
+    }
+
     /// Whether messages are taken from it, as far as it is concerned.
     pub fn is_taken_from(&self) -> bool {
-        self.hold.is_none() && matches!(self.phase, Phase::Greeted | Phase::Open)
+        self.hold.is_none() && self.is_opened()
     }
 
     /// Whether its stream is read: also for nobody, when it is closing.

@@ -1,7 +1,7 @@
 //! Whether the peers are still there: with each new second of the clock the engine is asked about every connection that
 //! it has opened. It says whom to send a Keepalive, and closes the connections whose peers haven't answered theirs.
 
-use std::io;
+use std::io::ErrorKind::WouldBlock;
 
 use engine::relay::Answer;
 
@@ -18,7 +18,7 @@ impl EventLoop {
     }
 
     fn check_peer(&mut self, number: usize) {
-        if !self.is_heard_out(number) {
+        if !self.is_silent(number) {
             return;
         }
         let room = &mut self.scratch[..relay_length(0)];
@@ -28,12 +28,13 @@ impl EventLoop {
         }
     }
 
-    /// Whether a peer's silence is its own. It isn't judged while the relay holds something up: its answer may be among
-    /// what has come and waits, for allowance or for a full output; and behind an output that isn't written it couldn't
-    /// have read a Keepalive. What waits has deadlines of its own: a turn, a slow reader's progress, the rest of a frame.
-    fn is_heard_out(&self, number: usize) -> bool {
+    /// Whether a peer can be judged by its silence. While something waits with the relay it can't: its answer may be among
+    /// what has come from it, and waits for allowance or for a full output; and behind what isn't written to it a
+    /// Keepalive couldn't be read in time. What waits has an end of its own: the partner's turns, a slow reader's
+    /// deadline, that of a frame.
+    fn is_silent(&self, number: usize) -> bool {
         let Some(connection) = &self.connections[number] else { return false };
-        self.outputs[number].is_empty() && connection.is_heard_out()
+        connection.is_opened() && self.outputs[number].is_empty() && connection.is_heard_out()
     }
 
     /// Does what the engine says. Of the checks only one that closes its connection counts as a call done.
@@ -51,10 +52,7 @@ impl Connection {
     /// Whether all that has come from the peer is taken. The clock's reading is of the turn's beginning, and the stream is
     /// looked at after it: if the relay was stopped in between, an answer may have come that the poll hasn't told of.
     fn is_heard_out(&self) -> bool {
-        self.is_taken_from() && !self.readable && self.input.is_empty() && self.has_nothing_to_read()
-    }
-
-    fn has_nothing_to_read(&self) -> bool {
-        self.stream.peek(&mut [0]).is_err_and(|error| error.kind() == io::ErrorKind::WouldBlock)
+        let has_nothing_to_read = || self.stream.peek(&mut [0]).is_err_and(|error| error.kind() == WouldBlock);
+        self.input.is_empty() && has_nothing_to_read()
     }
 }

@@ -60,7 +60,7 @@ fn a_silent_peer_is_asked_after_half_a_minute_and_closed_after_a_minute_more() {
     relay.await_line(&format!("partner 0, connection 0: {UNANSWERED}"));
     let (statistics, log) = relay.stop();
     assert_eq!(statistics[0].done, 3, "its open, its version answer and its close");
-    assert!(!log.iter().any(|line| line.contains("not closed")), "the engine has closed it: {log:?}");
+    assert!(!log.iter().any(|line| line.contains("refused")), "the engine has closed it, and isn't asked to: {log:?}");
 }
 
 #[test]
