@@ -1,7 +1,6 @@
 //! Peers that are asked whether they are there, and those who don't answer.
 
 use std::io::Write;
-use std::time::Duration;
 
 use codec::{encode, Message};
 use server::CONNECTIONS_EACH;
@@ -208,17 +207,23 @@ fn an_answer_that_waits_for_allowance_is_one() {
     assert!(!relay.has_line("closed"));
 }
 
-/// Sends this frame until the relay takes no more of it, since its receiver reads nothing. Gives how many bytes it took.
-fn fill(clock: &Standing, caller: &mut Socket, frame: &[u8]) -> usize {
-    caller.stream.set_write_timeout(Some(Duration::from_millis(300))).expect("a timeout");
-    let mut taken = 0;
-    while let Ok(count) = caller.stream.write(&frame[taken % frame.len()..]) {
-        taken += count;
-        assert!(taken < 1 << 24, "no end");
-        // So that it is never the allowance that it waits for.
+/// Sends this frame until the relay accepts no more of it, since its receiver reads nothing. Gives how many bytes were sent.
+fn fill(clock: &Standing, relay: &Relay, caller: &mut Socket, frame: &[u8]) -> usize {
+    caller.stream.set_nonblocking(true).expect("a mode");
+    let accepted = || relay.server.statistics()[0].bytes;
+    let (mut sent, mut before) = (0, (0, 0));
+    while before != (sent, accepted()) {
+        before = (sent, accepted());
+        while let Ok(count) = caller.stream.write(&frame[sent % frame.len()..]) {
+            sent += count;
+        }
+        assert!(sent < 1 << 24, "no end");
+        // The relay has turns enough to accept a frame, and it is paid for.
+        clock.pass(1);
         clock.pass(1);
     }
-    taken
+    caller.stream.set_nonblocking(false).expect("a mode");
+    sent
 }
 
 /// Neither the one that reads slowly, before it could have read a Keepalive, nor its sender, whose messages wait.
@@ -229,17 +234,17 @@ fn who_is_held_up_by_the_relay_is_not_judged() {
     caller.establish(&mut slow);
     let (mut frame, data) = (Vec::new(), Message::DataReceive { data: &[7; 65_000] });
     frames::append(&[&[11], &[7; 65_000][..]].concat(), &mut frame).expect("a frame");
-    let taken = fill(&clock, &mut caller, &frame);
+    let sent = fill(&clock, &relay, &mut caller, &frame);
     clock.pass(ASKED);
     clock.pass(ANSWERED);
     clock.pass(ANSWERED);
-    for _ in 0..taken / frame.len() {
+    for _ in 0..sent / frame.len() {
         assert!(told(&mut slow) == encode(&data), "other bytes");
         // What has waited is paid for now.
         clock.advance(1);
     }
     // The rest of the frame that was cut.
-    caller.send_bytes(&frame[taken % frame.len()..]);
+    caller.send_bytes(&frame[sent % frame.len()..]);
     assert!(told(&mut slow) == encode(&data), "other bytes");
     caller.send(Message::SessionEnd);
     assert_eq!(told(&mut slow), encode(&Message::SessionEndNotification));

@@ -205,7 +205,7 @@ fn nothing_is_written_while_nothing_changes() {
     let clock = Standing::from(1_000);
     let relay = with_state(clock.clone(), &file);
     // While a peer says nothing only the clock's seconds change.
-    let _silent = relay.peer(0);
+    let silent = relay.peer(0);
     await_saved(&file, |bytes| bytes[0] == OPEN);
     // A save makes another file of that name.
     let inode = || fs::metadata(&file).expect("a file").ino();
@@ -215,6 +215,7 @@ fn nothing_is_written_while_nothing_changes() {
         thread::sleep(Duration::from_millis(400));
     }
     assert_eq!(inode(), before);
+    silent.leave();
     relay.stop();
     assert_eq!(clock_of(&fs::read(&file).expect("a state")), 1_003, "at the end it is saved as it is");
 }
