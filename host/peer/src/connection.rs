@@ -28,8 +28,8 @@ pub(crate) struct Outgoing {
 pub(crate) struct Writer {
     stream: Arc<TcpStream>,
     frame: Vec<u8>,
-    /// When the last message was written.
-    sent: Instant,
+    /// When the last message was written. None if that failed: a part of it may be there, so no other can follow.
+    sent: Option<Instant>,
 }
 
 /// Closes a connection from another thread; a read or write that waits there ends.
@@ -39,7 +39,7 @@ pub struct Closer(Arc<TcpStream>);
 pub(crate) fn split(stream: TcpStream) -> (Incoming, Outgoing) {
     let stream = Arc::new(stream);
     let incoming = Incoming { stream: Arc::clone(&stream), reader: frames::Reader::default() };
-    let writer = Writer { stream: Arc::clone(&stream), frame: Vec::new(), sent: Instant::now() };
+    let writer = Writer { stream: Arc::clone(&stream), frame: Vec::new(), sent: Some(Instant::now()) };
     (incoming, Outgoing { stream, writer: Arc::new(Mutex::new(writer)) })
 }
 
@@ -88,7 +88,7 @@ impl Writer {
     fn send(&mut self, message: &Message, deadline: Option<Instant>) -> Result<(), Error> {
         self.make_frame(message)?;
         let written = Timed { stream: &self.stream, deadline }.write_all(&self.frame).map_err(failed);
-        self.sent = Instant::now();
+        self.sent = written.is_ok().then(Instant::now);
         written
     }
 
@@ -100,7 +100,8 @@ impl Writer {
 
     /// Sends a Keepalive if nothing was sent for so long. Gives when to ask again.
     pub fn beat(&mut self, silence: Duration) -> Duration {
-        let left = silence.saturating_sub(self.sent.elapsed());
+        let Some(sent) = self.sent else { return silence };
+        let left = silence.saturating_sub(sent.elapsed());
         if !left.is_zero() {
             return left;
         }
@@ -114,9 +115,9 @@ impl Writer {
         self.make_frame(&Message::Keepalive)?;
         let deadline = Some(Instant::now() + ROOM_WAIT);
         let count = Timed { stream: &self.stream, deadline }.write(&self.frame).map_err(failed)?;
-        Timed { stream: &self.stream, deadline: None }.write_all(&self.frame[count..]).map_err(failed)?;
-        self.sent = Instant::now();
-        Ok(())
+        let rest = Timed { stream: &self.stream, deadline: None }.write_all(&self.frame[count..]).map_err(failed);
+        self.sent = rest.is_ok().then(Instant::now);
+        rest
     }
 }
 
