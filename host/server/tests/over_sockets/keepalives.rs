@@ -1,9 +1,11 @@
 //! Peers that are asked whether they are there, and those who don't answer.
 
 use std::io::Write;
+use std::thread;
+use std::time::Duration;
 
 use codec::{encode, Message};
-use server::CONNECTIONS_EACH;
+use server::{JumpingClock, CONNECTIONS_EACH};
 
 use crate::clocks::{Halting, Standing};
 use crate::support::{Relay, Socket};
@@ -267,4 +269,15 @@ fn an_answer_that_came_while_the_relay_stood_still_is_one() {
     // It is asked again, half a minute being over, and isn't closed.
     assert_asked(&mut peer);
     assert!(peer.lease() < 1 << 26);
+}
+
+/// It is for measuring: hours pass by it in a moment, in which nobody could have answered.
+#[test]
+fn by_a_clock_that_jumps_with_each_call_nobody_is_asked() {
+    let relay = Relay::with_clock(JumpingClock::default());
+    let [mut busy, mut silent] = peers(&relay);
+    (0..100).for_each(|_| answer(&relay, &mut busy, Message::LeaseRequest));
+    thread::sleep(Duration::from_millis(50));
+    assert!(silent.is_quiet());
+    assert!(silent.lease() < 1 << 26);
 }
