@@ -10,7 +10,7 @@ use clap::{value_parser, Args, Subcommand};
 use codec::DATA_LIMIT;
 use peer::{
     confirm, receive_contents, send_contents, CookieFile, Error, Fingerprint, Meter, PartFile, Patience, Peer,
-    Progress, RelayAddress, SourceFile, SystemDisk, MESSAGE_SIZE,
+    Progress, RelayAddress, SourceFile, SystemDisk, MESSAGE_SIZE, SILENCE,
 };
 use server::PARTNERS;
 
@@ -37,15 +37,16 @@ Once that is complete and has the sender's digest it gets its name; otherwise it
 the receiver waits it extends its lease; if the relay doesn't extend or renew it, it leases another
 id and prints that one too. The sender is done when the receiver has confirmed the file, with its
 digest. A relay hands on 65,536 bytes a second for a partner whose allowance is used up. A transfer
-in which nothing moves for 60 seconds says so.
+in which nothing moves for 60 seconds says so. Either side tells the relay that it is there when it
+is asked; one that is suspended for a minute or more, by Ctrl-Z say, may find its connection closed.
 
 With '--cookie' the receiver keeps its lease's cookie in a file, a line of 48 hex digits, and asks
 for its id with it the next time, also after a power cut. Then 'kept' or 'new' follows the id on its
 line. It is 'new' the first time, when there is no such file; and else, if the relay has lost its
-leases, has given the id to another since, or takes the last connection for open, as it can do for
-minutes after a power cut; or if it is another relay or partner than before. Those who send have to
-be told a new id; the file has its cookie by then, and the old one is in a file of the same name
-with '.old' after it, until the next is replaced. Moved back, it is asked with again.
+leases, has given the id to another since, or takes the last connection for open, as it does for a
+minute and a half after a power cut; or if it is another relay or partner than before. Those who
+send have to be told a new id; the file has its cookie by then, and the old one is in a file of the
+same name with '.old' after it, until the next is replaced. Moved back, it is asked with again.
 Who has the cookie can have the id, so both files are for their owner only (mode 0600). They are for
 one receiver at a time, which locks a file of the same name with '.lock' after it.
 
@@ -242,8 +243,10 @@ impl Options {
     fn connect(&self, port: u16, watch: &Watch) -> Result<Peer, Failure> {
         let host = self.relay.host();
         let peer = Peer::connect((host, port));
-        let peer = peer.map_err(|error| Failure::Failed(format!("{host} port {port}: {error}")))?;
+        let mut peer = peer.map_err(|error| Failure::Failed(format!("{host} port {port}: {error}")))?;
         watch.connected(peer.closer());
+        // A disk or a terminal may make it wait.
+        peer.keep_alive(SILENCE).map_err(failed)?;
         Ok(peer)
     }
 

@@ -38,15 +38,19 @@ Each has a log line on stderr, with the time and the peer's address, and of a me
 how many units are missing; from the eleventh line of a kind and connection on they are summed up,
 every 5 seconds. At most some 160 KiB wait for a connection that reads slowly: beyond that its
 senders wait too. A connection is closed that takes less than 16 KiB of what waits for it in 30
-seconds, doesn't answer the relay's version in 10, or leaves a frame unfinished for 30; one whose
-peer has vanished, after one to five minutes. The kernel tells of what is taken in lumps, so a peer
-should read 10 KB a second or more.
+seconds, doesn't answer the relay's version in 10, or leaves a frame unfinished for 30. The kernel
+tells of what is taken in lumps, so a peer should read 10 KB a second or more.
+
+A peer that was sent nothing for 30 seconds is sent a Keepalive. It answers by a Keepalive, or any
+other message that is accepted; if none is in 60 seconds, its connection is closed, and the other
+side of its session told. So a peer that has vanished is found in a minute and a half; by TCP, in
+five minutes, if it is sent something all the while.
 
 With '--state' the three tables are in FILE: they are loaded at the start, saved twice a second when
-they have changed, and at the end. Leases and allowances go on; connections are gone. What a killed
-relay did in its last second is lost. Only one relay can use a file; beside it stand FILE.lock and,
-for moments, FILE.new. A file of another size is an error and is left as it is. 'crondelith explain'
-tells from FILE what the relay would answer to a call, and why.
+more than their clock has changed, and at the end. Leases and allowances go on; connections are
+gone. What a killed relay did in its last second is lost. Only one relay can use a file; beside it
+stand FILE.lock and, for moments, FILE.new. A file of another size is an error and is left as it is.
+'crondelith explain' tells from FILE what the relay would answer to a call, and why.
 
 The relay's clock is the machine's at the start (or the state's, if that is later) and goes on by
 itself; that the machine's time was set meanwhile is a line in the log.

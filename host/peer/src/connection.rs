@@ -2,12 +2,15 @@
 
 use std::io::{self, Read, Write};
 use std::net::{Shutdown, TcpStream};
-use std::sync::Arc;
+use std::sync::{Arc, Mutex, PoisonError, Weak};
 use std::time::{Duration, Instant};
 
 use codec::Message;
 
 use crate::Error;
+
+/// How long a Keepalive that nobody asked for waits for room.
+const ROOM_WAIT: Duration = Duration::from_millis(100);
 
 /// What comes from the relay.
 pub(crate) struct Incoming {
@@ -18,7 +21,15 @@ pub(crate) struct Incoming {
 /// What goes to the relay.
 pub(crate) struct Outgoing {
     stream: Arc<TcpStream>,
+    writer: Arc<Mutex<Writer>>,
+}
+
+/// Writes a message at a time, so that the frames of two threads don't mix.
+pub(crate) struct Writer {
+    stream: Arc<TcpStream>,
     frame: Vec<u8>,
+    /// When the last message was written. None if that failed: a part of it may be there, so no other can follow.
+    sent: Option<Instant>,
 }
 
 /// Closes a connection from another thread; a read or write that waits there ends.
@@ -28,7 +39,8 @@ pub struct Closer(Arc<TcpStream>);
 pub(crate) fn split(stream: TcpStream) -> (Incoming, Outgoing) {
     let stream = Arc::new(stream);
     let incoming = Incoming { stream: Arc::clone(&stream), reader: frames::Reader::default() };
-    (incoming, Outgoing { stream, frame: Vec::new() })
+    let writer = Writer { stream: Arc::clone(&stream), frame: Vec::new(), sent: Some(Instant::now()) };
+    (incoming, Outgoing { stream, writer: Arc::new(Mutex::new(writer)) })
 }
 
 impl Incoming {
@@ -53,11 +65,13 @@ impl Incoming {
 impl Outgoing {
     /// Fails if the relay hasn't taken the message by the deadline. It may have taken a part of it then, so no other
     /// message can follow.
-    pub fn send(&mut self, message: &Message, deadline: Option<Instant>) -> Result<(), Error> {
-        let bytes = codec::encode(message).ok_or(Error::OutOfRange)?;
-        self.frame.clear();
-        frames::append(&bytes, &mut self.frame).ok_or(Error::OutOfRange)?;
-        Timed { stream: &self.stream, deadline }.write_all(&self.frame).map_err(failed)
+    pub fn send(&self, message: &Message, deadline: Option<Instant>) -> Result<(), Error> {
+        self.writer.lock().unwrap_or_else(PoisonError::into_inner).send(message, deadline)
+    }
+
+    /// For another thread. It keeps the connection from being closed only while it writes.
+    pub fn writer(&self) -> Weak<Mutex<Writer>> {
+        Arc::downgrade(&self.writer)
     }
 
     pub fn stream(&self) -> &TcpStream {
@@ -67,6 +81,43 @@ impl Outgoing {
     /// Tells the relay that nothing more will come.
     pub fn end(&self) -> Result<(), Error> {
         self.stream.shutdown(Shutdown::Write).map_err(failed)
+    }
+}
+
+impl Writer {
+    fn send(&mut self, message: &Message, deadline: Option<Instant>) -> Result<(), Error> {
+        self.make_frame(message)?;
+        let written = Timed { stream: &self.stream, deadline }.write_all(&self.frame).map_err(failed);
+        self.sent = written.is_ok().then(Instant::now);
+        written
+    }
+
+    fn make_frame(&mut self, message: &Message) -> Result<(), Error> {
+        let bytes = codec::encode(message).ok_or(Error::OutOfRange)?;
+        self.frame.clear();
+        frames::append(&bytes, &mut self.frame).ok_or(Error::OutOfRange)
+    }
+
+    /// Sends a Keepalive if nothing was sent for so long. Gives when to ask again.
+    pub fn beat(&mut self, silence: Duration) -> Duration {
+        let Some(sent) = self.sent else { return silence };
+        let left = silence.saturating_sub(sent.elapsed());
+        if !left.is_zero() {
+            return left;
+        }
+        // An error is for those who use the connection to find.
+        let _ = self.offer_keepalive();
+        silence
+    }
+
+    /// If there is no room, what was sent before has still to be taken, and says as much.
+    fn offer_keepalive(&mut self) -> Result<(), Error> {
+        self.make_frame(&Message::Keepalive)?;
+        let deadline = Some(Instant::now() + ROOM_WAIT);
+        let count = Timed { stream: &self.stream, deadline }.write(&self.frame).map_err(failed)?;
+        let rest = Timed { stream: &self.stream, deadline: None }.write_all(&self.frame[count..]).map_err(failed);
+        self.sent = rest.is_ok().then(Instant::now);
+        rest
     }
 }
 

@@ -7,6 +7,7 @@ use std::time::{Duration, Instant};
 use codec::Message;
 
 use crate::connection::{split, Closer, Incoming, Outgoing};
+use crate::heartbeat::Heartbeat;
 use crate::lease::Lease;
 use crate::Error;
 
@@ -21,6 +22,7 @@ pub struct Peer {
     pub(crate) outgoing: Outgoing,
     pub(crate) lease: Option<Lease>,
     answer_wait: Duration,
+    heartbeat: Option<Heartbeat>,
 }
 
 impl Peer {
@@ -35,7 +37,7 @@ impl Peer {
         // Answers and the end of a session are small and shouldn't wait for more.
         stream.set_nodelay(true).map_err(Error::Connection)?;
         let (incoming, outgoing) = split(stream);
-        let mut peer = Self { incoming, outgoing, lease: None, answer_wait };
+        let mut peer = Self { incoming, outgoing, lease: None, answer_wait, heartbeat: None };
         peer.shake_hands()?;
         Ok(peer)
     }
@@ -60,6 +62,13 @@ impl Peer {
     /// Sets how long the relay may take to take a message, to answer a request, and to end a session or connection.
     pub fn set_answer_wait(&mut self, wait: Duration) {
         self.answer_wait = wait;
+    }
+
+    /// From now on a thread of its own sends a Keepalive after each such silence, whatever the peer is busy with: a relay
+    /// closes a connection whose peer doesn't answer. Not for those who write to [`Self::stream`].
+    pub fn keep_alive(&mut self, silence: Duration) -> Result<(), Error> {
+        self.heartbeat = Some(Heartbeat::start(&self.outgoing, silence).map_err(Error::Thread)?);
+        Ok(())
     }
 
     pub(crate) fn answer_deadline(&self) -> Instant {
@@ -113,6 +122,7 @@ impl Peer {
     /// Ends the connection in order: the relay has handed on all that was sent when it closes its side.
     pub fn finish(mut self) -> Result<(), Error> {
         let deadline = self.answer_deadline();
+        self.heartbeat = None;
         self.outgoing.end()?;
         loop {
             // Nothing can be answered any more, a Keepalive neither.

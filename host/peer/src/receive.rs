@@ -44,7 +44,7 @@ pub fn confirm(peer: &mut Peer, kept: &Fingerprint) -> Result<(), Error> {
     let deadline = peer.answer_deadline();
     peer.send(&Message::DataSend { data: &kept.to_bytes() })?;
     loop {
-        // A Keepalive isn't answered: a write might wait, and nothing is to be kept up any more.
+        // A Keepalive isn't answered: a write might wait, and the relay waits longer for an answer than this does.
         match peer.incoming.receive(Some(deadline)) {
             // However the session ends now, the file is there.
             Ok(Some(Message::SessionEndNotification) | None) => return Ok(()),

@@ -177,7 +177,7 @@ impl<P: FnMut(Progress)> Watch<'_, P> {
 /// The sending thread's side.
 struct Sending<'a> {
     transfer: &'a Transfer,
-    outgoing: &'a mut Outgoing,
+    outgoing: &'a Outgoing,
     events: Receiver<Event>,
     /// The receiver's last count, as for the watching thread.
     arrived: Option<u64>,

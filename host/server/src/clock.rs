@@ -77,7 +77,8 @@ impl Clock for SystemClock {
 }
 
 /// A clock on which no allowance is ever used up: each reading is four seconds after the last. For measuring and testing
-/// what the relay does beside waiting.
+/// what the relay does beside waiting. Its readings don't tell how long a peer was silent, so it has no next second for
+/// long, with which the peers would be asked.
 #[derive(Default)]
 pub struct JumpingClock(u64);
 
@@ -88,6 +89,6 @@ impl Clock for JumpingClock {
     }
 
     fn until_next(&self) -> Duration {
-        Duration::from_millis(1)
+        Duration::from_secs(3600)
     }
 }

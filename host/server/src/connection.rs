@@ -96,9 +96,14 @@ impl Connection {
         }
     }
 
+    /// Whether the engine has opened it, and hasn't closed it.
+    pub fn is_opened(&self) -> bool {
+        matches!(self.phase, Phase::Greeted | Phase::Open)
+    }
+
     /// Whether messages are taken from it, as far as it is concerned.
     pub fn is_taken_from(&self) -> bool {
-        self.hold.is_none() && matches!(self.phase, Phase::Greeted | Phase::Open)
+        self.hold.is_none() && self.is_opened()
     }
 
     /// Whether its stream is read: also for nobody, when it is closing.
@@ -124,6 +129,8 @@ pub enum End {
     OtherVersion,
     /// No version answer, or only a part of a frame, has come in time.
     Silent(Phase),
+    /// The peer hasn't answered a Keepalive in time. The engine has closed the connection.
+    Unanswered,
     /// The peer took next to nothing of what was sent to it for too long. What it has sent meanwhile is dropped; that of a
     /// peer which left is not.
     GivenUp,
@@ -134,12 +141,12 @@ pub enum End {
 impl End {
     /// Whether what waits for the peer can still be written.
     pub fn has_last_words(&self) -> bool {
-        !matches!(self, Self::GivenUp | Self::Failed(_))
+        !matches!(self, Self::Unanswered | Self::GivenUp | Self::Failed(_))
     }
 
     /// Whether the engine has closed the connection already.
     pub fn is_closed_by_engine(&self) -> bool {
-        matches!(self, Self::OtherVersion)
+        matches!(self, Self::OtherVersion | Self::Unanswered)
     }
 
     /// What it is summed up as in the log.
@@ -150,6 +157,7 @@ impl End {
             Self::Refused(_) => "refused",
             Self::OtherVersion => "other version",
             Self::Silent(_) => "silent",
+            Self::Unanswered => "unanswered",
             Self::GivenUp => "given up",
             Self::Stopped => "stopped",
             Self::Failed(_) => "failed",
@@ -166,6 +174,7 @@ impl fmt::Display for End {
             Self::OtherVersion => write!(to, "closed, the peer doesn't accept the relay's version"),
             Self::Silent(Phase::Greeted) => write!(to, "closed, the peer hasn't answered the relay's version in time"),
             Self::Silent(_) => write!(to, "closed, the peer has left a frame unfinished for too long"),
+            Self::Unanswered => write!(to, "closed, the peer hasn't answered a Keepalive in time"),
             Self::GivenUp => write!(to, "closed, the peer has read next to nothing for too long"),
             Self::Stopped => write!(to, "closed, the relay ends"),
             Self::Failed(error) => write!(to, "closed, {error}"),

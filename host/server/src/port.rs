@@ -6,7 +6,7 @@ use std::net::{IpAddr, Ipv4Addr, SocketAddr};
 use std::time::{Duration, Instant};
 
 use mio::net::{TcpListener, TcpStream};
-use socket2::{Domain, Protocol, SockRef, Socket, TcpKeepalive, Type};
+use socket2::{Domain, Protocol, SockRef, Socket, Type};
 
 use crate::{descriptors, CONNECTIONS_EACH, PARTNERS};
 
@@ -17,10 +17,6 @@ const KERNEL_BUFFER: usize = 131_072;
 const BACKLOG: i32 = 128;
 /// Connections of a partner that may wait for a number.
 pub const WAITING_LIMIT: usize = 8;
-/// A connection on which nothing has come for so long is probed, so often, and ended if its peer has vanished.
-const PROBE_AFTER: Duration = Duration::from_secs(30);
-const PROBE_INTERVAL: Duration = Duration::from_secs(10);
-const PROBES: u32 = 3;
 
 /// The sockets that listen for each partner: one or more.
 pub struct Listeners(Vec<Vec<std::net::TcpListener>>);
@@ -73,10 +69,7 @@ fn listen(place: SocketAddr) -> io::Result<std::net::TcpListener> {
 /// How a connection's socket behaves. A peer that acknowledges nothing for the time limit has vanished.
 fn set_up(stream: &TcpStream, time_limit: Duration) -> io::Result<()> {
     stream.set_nodelay(true)?;
-    let socket = SockRef::from(stream);
-    let probing = TcpKeepalive::new().with_time(PROBE_AFTER).with_interval(PROBE_INTERVAL).with_retries(PROBES);
-    socket.set_tcp_keepalive(&probing)?;
-    socket.set_tcp_user_timeout(Some(time_limit))
+    SockRef::from(stream).set_tcp_user_timeout(Some(time_limit))
 }
 
 /// A connection that is to get a number.
@@ -173,7 +166,7 @@ mod tests {
 
     use socket2::SockRef;
 
-    use super::{bind_free, listen, Port, KERNEL_BUFFER, PROBE_AFTER, PROBE_INTERVAL};
+    use super::{bind_free, listen, Port, KERNEL_BUFFER};
 
     /// Accepts so many connections of a port.
     fn accept(port: &mut Port, count: usize) {
@@ -197,17 +190,15 @@ mod tests {
         assert!(places.iter().all(|place| taken.contains(place)), "{taken:?}");
     }
 
-    /// A peer that vanishes without a word can't be had on one machine: these are what ends it.
+    /// A peer that vanishes while it is sent something can't be had on one machine: the user timeout is what ends it.
     #[test]
-    fn connections_are_probed_and_have_small_buffers() {
+    fn connections_have_a_time_limit_and_small_buffers() {
         let listeners = bind_free().expect("free ports");
         let _peer = TcpStream::connect(listeners.addresses().expect("addresses")[0]).expect("it listens");
         let mut port = listeners.into_ports().remove(0);
         accept(&mut port, 1);
         let socket = SockRef::from(&port.candidates[0].stream);
-        assert!(socket.keepalive().expect("an option") && socket.nodelay().expect("an option"));
-        assert_eq!(socket.keepalive_time().expect("an option"), PROBE_AFTER);
-        assert_eq!(socket.keepalive_interval().expect("an option"), PROBE_INTERVAL);
+        assert!(socket.nodelay().expect("an option"));
         assert_eq!(socket.tcp_user_timeout().expect("an option"), Some(Duration::from_secs(60)));
         let sizes = [socket.recv_buffer_size(), socket.send_buffer_size()].map(|size| size.expect("an option"));
         assert_eq!(sizes, [2 * KERNEL_BUFFER; 2], "as the kernel books them");

@@ -33,6 +33,12 @@ impl Tables {
         self.0[Self::SIZE - CLOCK_LENGTH..].iter().fold(0, |number, byte| number << 8 | u64::from(*byte))
     }
 
+    /// Whether they are others than these, also if the clock were the same.
+    pub fn differ_beside_clock(&self, other: &Self) -> bool {
+        let beside_clock = ..Self::SIZE - CLOCK_LENGTH;
+        self.0[beside_clock] != other.0[beside_clock]
+    }
+
     /// Only to be read.
     pub fn view(&self) -> reasons::Tables<'_> {
         let (connections, rest) = self.0.split_at(relay::CONNECTIONS);
@@ -40,7 +46,8 @@ impl Tables {
         reasons::Tables { connections, leases, allowances }
     }
 
-    fn lend(&mut self) -> relay::Tables<'_> {
+    /// For a call.
+    pub fn lend(&mut self) -> relay::Tables<'_> {
         let (connections, rest) = self.0.split_at_mut(relay::CONNECTIONS);
         let (leases, allowances) = rest.split_at_mut(relay::LEASES);
         relay::Tables { connections, leases, allowances }
@@ -103,6 +110,12 @@ impl Relay {
     pub fn close(&mut self, connection: usize, relay: &mut [u8]) -> Result<Answer, Refusal> {
         let now = self.now();
         accepted(relay::close(self.tables.lend(), now, connection as u64, relay))
+    }
+
+    /// Finds out whether a connection's peer still answers.
+    pub fn keepalive(&mut self, connection: usize, reply: &mut [u8], relay: &mut [u8]) -> Result<Answer, Refusal> {
+        let now = self.now();
+        accepted(relay::keepalive(self.tables.lend(), now, connection as u64, reply, relay))
     }
 
     /// Why an open was refused: this is about its reading, the latest.

@@ -34,9 +34,10 @@ impl Saver {
         Ok(Self { tables: sender, thread, last: tables.clone(), failed })
     }
 
-    /// Hands the tables over, if they have changed or couldn't be saved.
+    /// Hands the tables over, if they have changed or couldn't be saved. The clock by itself isn't worth it: it moves with
+    /// each second in which somebody is connected.
     pub fn save(&mut self, tables: &Tables) {
-        if self.failed.swap(false, Ordering::Relaxed) || self.last != *tables {
+        if self.failed.swap(false, Ordering::Relaxed) || self.last.differ_beside_clock(tables) {
             self.last = tables.clone();
             // It fails only if the thread has ended, which nothing ends.
             let _ = self.tables.send(tables.clone());

@@ -4,7 +4,7 @@ use std::fmt;
 
 #[derive(Clone, Copy, Debug, Default, PartialEq, Eq)]
 pub struct Statistics {
-    /// Opens, messages and closes that were accepted.
+    /// Opens, messages and closes that were accepted, and closes for want of an answer.
     pub done: u64,
     /// Opens and messages that had to wait for the allowance.
     pub waited: u64,

@@ -1,6 +1,7 @@
 //! A call that the relay might be asked for, and the engine's reason for its answer.
 
 use engine::reasons::{self, Reason, Tables};
+use engine::relay::{self, Answer, BUFFER};
 use server::{calls, CLOCK_LIMIT, CONNECTIONS_EACH, PARTNERS};
 
 /// Connections have numbers below it.
@@ -19,6 +20,17 @@ pub enum Action {
     Open { reply_length: u64 },
     Message { message: Vec<u8>, random: Vec<u8>, reply_length: u64, relay_length: u64 },
     Close { relay_length: u64 },
+    Keepalive { reply_length: u64, relay_length: u64 },
+}
+
+/// What a keepalive check does.
+#[derive(Clone, Copy, Debug, PartialEq, Eq)]
+pub enum Due {
+    Nothing,
+    /// A Keepalive is sent.
+    Keepalive,
+    /// The connection is closed.
+    Close,
 }
 
 impl Call {
@@ -34,6 +46,21 @@ impl Call {
                 reasons::message(tables, time, self.connection, message, random, *reply_length, *relay_length)
             }
             Action::Close { relay_length } => reasons::close(tables, time, self.connection, *relay_length),
+            Action::Keepalive { reply_length, relay_length } => {
+                reasons::keepalive(tables, time, self.connection, *reply_length, *relay_length)
+            }
+        }
+    }
+
+    /// What a keepalive check would do, which no reason tells: so it is made, on a copy of the tables.
+    pub fn due(&self, tables: &server::Tables) -> Option<Due> {
+        let Action::Keepalive { .. } = self.action else { return None };
+        let (mut copy, mut reply, mut relayed) = (tables.clone(), [0; BUFFER], [0; BUFFER]);
+        match relay::keepalive(copy.lend(), self.time, self.connection, &mut reply, &mut relayed) {
+            Answer { number: 1.., .. } => None,
+            Answer { disconnect: 1, .. } => Some(Due::Close),
+            Answer { reply: 1.., .. } => Some(Due::Keepalive),
+            _ => Some(Due::Nothing),
         }
     }
 

@@ -4,7 +4,8 @@ use engine::reasons::{Reason, ESTABLISH, LEASE};
 use frames::MESSAGE_LIMIT;
 use server::{Refusal, Tables};
 
-use super::call::Call;
+use super::call::{Call, Due};
+use super::words;
 
 pub struct Explanation {
     pub call: Call,
@@ -13,6 +14,8 @@ pub struct Explanation {
     pub reason: Reason,
     /// When a call that can't be paid now can be.
     pub payable_at: Option<u64>,
+    /// What a keepalive check would do.
+    pub due: Option<Due>,
 }
 
 /// What a charged call costs, and what its partner has.
@@ -44,7 +47,8 @@ impl Explanation {
     pub fn new(call: Call, tables: &Tables) -> Self {
         let reason = call.reason(tables.view());
         let payable_at = reason.shortfall().and_then(|_| call.payable_at(tables.view()));
-        Self { call, clock: tables.clock(), reason, payable_at }
+        let due = call.due(tables).filter(|_| reason.check == 0);
+        Self { call, clock: tables.clock(), reason, payable_at, due }
     }
 
     /// The check that stops the call, if any.
@@ -90,9 +94,15 @@ impl Explanation {
 
     /// What a running relay does then with a message. The first five checks are about what it brings itself; and what no
     /// frame holds never comes to it.
-    pub fn consequence(&self) -> Option<server::Consequence> {
+    fn consequence(&self) -> Option<server::Consequence> {
         let refusal = self.refusal().filter(|Refusal(check)| *check > 5)?;
         let message = self.call.message().filter(|message| message.len() <= MESSAGE_LIMIT);
         message.map(|_| refusal.consequence())
+    }
+
+    /// What a running relay does then, in words.
+    pub fn follows(&self) -> Option<String> {
+        let consequence = self.consequence().map(|consequence| consequence.to_string());
+        consequence.or_else(|| self.due.map(|due| words::due(due).into()))
     }
 }

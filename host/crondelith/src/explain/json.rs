@@ -18,6 +18,7 @@ impl Explanation {
             Action::Open { .. } => "open",
             Action::Message { .. } => "message",
             Action::Close { .. } => "close",
+            Action::Keepalive { .. } => "keepalive",
         };
         let message = self.call.message();
         [
@@ -43,7 +44,7 @@ impl Explanation {
             ("done", json!(self.refusal().is_none())),
             ("reason", json!(self.refusal().map(|refusal| refusal.reason()))),
             ("meaning", json!(words::meaning(self))),
-            ("follows", json!(self.consequence().map(|consequence| consequence.to_string()))),
+            ("follows", json!(self.follows())),
             ("request", json!(request)),
             ("condition", json!(condition)),
             ("status", json!(status)),

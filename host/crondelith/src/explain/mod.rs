@@ -37,11 +37,16 @@ without the frame's own length and type.";
 const CLOSE_ABOUT: &str = "\
 Tells whether a connection would be closed, and why not.";
 
+const KEEPALIVE_ABOUT: &str = "\
+Tells whether the peer of a connection would be asked if it is there, or its connection closed, as
+the relay finds out every second; or why not. A Keepalive that a peer sends is a message.";
+
 const DETAILS: &str = "\
 It says which check stops the call, or that it would be done; whether a lease would be accepted, or
 which of the four conditions fails first; whether a session would be established, or the status why
-not; what the call costs and what the partner has; and what is left, or how much is missing and
-after how many seconds it can be paid. For instance, a lease request from connection 9, now:
+not; whether a peer would be sent a Keepalive, or has left one unanswered for too long; what the
+call costs and what the partner has; and what is left, or how much is missing and after how many
+seconds it can be paid. For instance, a lease request from connection 9, now:
 
   crondelith explain relay.state message --connection 9 --hex 0200 --time $(date +%s)
 
@@ -49,13 +54,15 @@ A request with a cookie is 24 bytes longer, and costs 24 units more. Which cooki
 nothing of what is told, so zeros stand for any: 0201 and 48 times 0. A real one is a secret, and
 others can see the words of a command.
 
-The file's clock is the time of the last call that was done, or of the relay's start if none was.
-Later the allowances have refilled, and leases may have ended. What is told is the answer to a call
-that has its turn: while a message of the partner waits for the refill, its others wait behind it.
+The file's clock is the time of the last call that was done when it was saved, or of the relay's
+start if none was. Later the allowances have refilled, and leases may have ended. What is told is
+the answer to a call that has its turn: while a message of the partner waits for the refill, its
+others wait behind it.
 
-STATE can be read at any time, by the relay's user only. A relay that runs saves it twice a second,
-with its connections as they are then. It closes them all when it ends: from then on every message
-is answered with 4. The file of one that was killed still has them, until it starts again.
+STATE can be read at any time, by the relay's user only. A relay that runs saves it twice a second
+when more than the clock has changed, with its connections as they are then. It closes them all when
+it ends: from then on every message is answered with 4. The file of one that was killed still has
+them, until it starts again.
 
 With '--json' the same is one object. It has what applies of these: call, connection, partner, time,
 clock, message_length, message_type; check, done, reason, meaning, follows, request, condition,
@@ -88,6 +95,9 @@ enum Kind {
     /// A connection is closed
     #[command(long_about = CLOSE_ABOUT, after_long_help = DETAILS)]
     Close,
+    /// A connection is checked for a peer that doesn't answer
+    #[command(long_about = KEEPALIVE_ABOUT, after_long_help = DETAILS)]
+    Keepalive,
 }
 
 pub fn run(arguments: Arguments) -> Outcome {

@@ -41,12 +41,12 @@ pub struct Options {
     #[arg(long, global = true, verbatim_doc_comment, value_name = "HEX", help_heading = "Options of 'message'")]
     random: Option<Hex>,
 
-    /// Bytes that there is room for in the reply; of 'open' and 'message'
-    /// [default: 64]
+    /// Bytes that there is room for in the reply;
+    /// of 'open', 'message' and 'keepalive' [default: 64]
     #[arg(long, global = true, verbatim_doc_comment, value_name = "N", help_heading = "Buffers")]
     reply_length: Option<u64>,
 
-    /// Likewise in what is relayed; of 'message' and 'close'
+    /// Likewise in what is relayed; of 'message', 'close' and 'keepalive'
     /// [default: the message's length, or 64 if that is more]
     #[arg(long, global = true, verbatim_doc_comment, value_name = "N", help_heading = "Buffers")]
     relay_length: Option<u64>,
@@ -69,11 +69,11 @@ impl Options {
             ("'--file' is an option of 'message'", self.file.is_some() && !is_message),
             ("'--random' is an option of 'message'", self.random.is_some() && !is_message),
             (
-                "'--reply-length' is an option of 'open' and 'message'",
+                "'--reply-length' is an option of 'open', 'message' and 'keepalive'",
                 self.reply_length.is_some() && call == Kind::Close,
             ),
             (
-                "'--relay-length' is an option of 'message' and 'close'",
+                "'--relay-length' is an option of 'message', 'close' and 'keepalive'",
                 self.relay_length.is_some() && call == Kind::Open,
             ),
         ];
@@ -98,6 +98,7 @@ impl Options {
         Ok(match call {
             Kind::Open => Action::Open { reply_length },
             Kind::Close => Action::Close { relay_length: relay_length(0) },
+            Kind::Keepalive => Action::Keepalive { reply_length, relay_length: relay_length(0) },
             Kind::Message => {
                 let (message, random) = (self.message()?, self.random()?);
                 Action::Message { relay_length: relay_length(message.len()), message, random, reply_length }

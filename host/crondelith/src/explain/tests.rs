@@ -6,7 +6,7 @@ use engine::reasons::{Reason, ESTABLISH, LEASE};
 use serde_json::{json, Value};
 use server::{CLOCK_LIMIT, CONNECTIONS_EACH};
 
-use super::call::{Action, Call, CONNECTIONS};
+use super::call::{Action, Call, Due, CONNECTIONS};
 use super::explanation::Explanation;
 use super::DETAILS;
 
@@ -20,6 +20,7 @@ const NOT_CHARGED: &str = "Cost:       nothing, a call refused so isn't charged"
 
 const OPEN: Action = Action::Open { reply_length: 64 };
 const CLOSE: Action = Action::Close { relay_length: 64 };
+const CHECK: Action = Action::Keepalive { reply_length: 64, relay_length: 64 };
 
 fn message(message: &[u8]) -> Action {
     Action::Message { message: message.to_vec(), random: vec![0; 80], reply_length: 64, relay_length: 64 }
@@ -40,7 +41,7 @@ const MALFORMED: [(&[u8], &str); 7] = [
 fn explanation(action: Action, reason: Reason) -> Explanation {
     let call = Call { connection: CONNECTION, time: CLOCK, action };
     let payable_at = reason.shortfall().map(|units| CLOCK + units.div_ceil(65_536));
-    Explanation { call, clock: CLOCK, reason, payable_at }
+    Explanation { call, clock: CLOCK, reason, payable_at, due: None }
 }
 
 fn refused(check: u32) -> Reason {
@@ -128,7 +129,7 @@ fn what_is_missing_is_told_with_the_time_when_it_is_there() {
 
 #[test]
 fn a_free_call_costs_nothing() {
-    for action in [CLOSE, message(&[9])] {
+    for action in [CLOSE, CHECK, message(&[9])] {
         let told = explanation(action, Reason { charged: 0, ..charged(0, 0) });
         assert_eq!(line(&told, "Cost:").expect("a cost"), "nothing, the call is free");
         assert_eq!(line(&told, "Allowance:"), None);
@@ -138,13 +139,19 @@ fn a_free_call_costs_nothing() {
 
 #[test]
 fn each_check_has_words_for_the_call() {
-    let cases: [(u32, Action, &str); 14] = [
+    let cases: [(u32, Action, &str); 16] = [
         (2, OPEN, "the relay's clock is at 1794812909 already, and doesn't go back"),
         (3, OPEN, &format!("connections have the numbers 0 to {}", CONNECTIONS - 1)),
         (4, OPEN, "the connection isn't closed, and only a closed one can be opened"),
         (4, CLOSE, "the connection is closed, as all are when a relay has ended or starts"),
+        (4, CHECK, "the connection is closed, as all are when a relay has ended or starts"),
         (5, Action::Open { reply_length: 63 }, "the reply buffer needs 64 bytes or more and has 63"),
         (5, Action::Close { relay_length: 0 }, "the relay buffer needs 64 bytes or more and has 0"),
+        (
+            5,
+            Action::Keepalive { reply_length: 63, relay_length: 1_000 },
+            "the reply buffer needs 64 bytes or more and has 63; the relay buffer needs 64 bytes or more and has 1,000",
+        ),
         (6, message(&[]), "it is empty, and a message begins with its type"),
         (6, message(&[2, 2]), MALFORMED[1].1),
         (6, message(&[3, 0]), "it has type 3, and peers send types 1, 2, 4, 6, 9, 11, 13"),
@@ -221,6 +228,33 @@ fn what_a_running_relay_does_is_told_of_messages_that_peers_can_send() {
 }
 
 #[test]
+fn what_a_keepalive_check_does_has_words() {
+    let done = Reason { charged: 0, ..charged(0, 0) };
+    let told = Explanation { due: Some(Due::Keepalive), ..explanation(CHECK, done) };
+    assert_text(
+        &told,
+        &[
+            &format!("Call:       keepalive check of connection {CONNECTION} of partner 1"),
+            NOW,
+            "Answer:     0, it would be done",
+            "Follows:    a Keepalive is sent to the peer",
+            "Cost:       nothing, the call is free",
+        ],
+    );
+    let expected = json!({
+        "call": "keepalive", "connection": CONNECTION, "partner": 1, "time": CLOCK, "clock": CLOCK, "check": 0,
+        "done": true, "follows": "a Keepalive is sent to the peer", "free": true,
+    });
+    assert_eq!(told.to_json(), expected);
+    let follows = |due| line(&Explanation { due: Some(due), ..explanation(CHECK, done) }, "Follows:");
+    for (due, words) in [(Due::Nothing, "nothing, "), (Due::Close, "the connection is closed, since its peer hasn't ")]
+    {
+        assert!(follows(due).is_some_and(|follows| follows.starts_with(words)), "{due:?}");
+    }
+    assert_eq!(line(&explanation(CHECK, refused(4)), "Follows:"), None);
+}
+
+#[test]
 fn each_condition_of_a_lease_has_words() {
     let words = ["accepted", "holds a live lease already", "no row left", "the cookie of a live lease", "every id"];
     for (condition, words) in (0..).zip(words) {
@@ -251,7 +285,7 @@ fn each_status_has_words() {
 #[test]
 fn any_numbers_have_words() {
     let call = Call { connection: u64::MAX, time: u64::MAX, action: OPEN };
-    let told = Explanation { call, clock: 0, reason: refused(2), payable_at: None };
+    let told = Explanation { call, clock: 0, reason: refused(2), payable_at: None, due: None };
     assert_eq!(line(&told, "Call:").expect("a call"), "open of connection 18446744073709551615");
     assert_eq!(line(&told, "Time:").expect("a time"), "18446744073709551615; the file's clock is at 0");
     assert_eq!(line(&told, "Meaning:").expect("words"), "times are below 1,099,511,627,776");
@@ -276,7 +310,7 @@ fn the_help_names_every_field() {
 fn numbers_at_their_limits_have_words() {
     let told = |connection, time| {
         let call = Call { connection, time, action: OPEN };
-        Explanation { call, clock: 0, reason: refused(2), payable_at: None }
+        Explanation { call, clock: 0, reason: refused(2), payable_at: None, due: None }
     };
     assert_eq!(line(&told(0, CLOCK_LIMIT), "Meaning:").expect("words"), "times are below 1,099,511,627,776");
     let last = told(CONNECTIONS - 1, 0);

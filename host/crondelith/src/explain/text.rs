@@ -31,7 +31,7 @@ impl Explanation {
             Some(("Time:", self.time())),
             Some(("Answer:", self.answer())),
             words::meaning(self).map(|meaning| ("Meaning:", meaning)),
-            self.consequence().map(|consequence| ("Follows:", consequence.to_string())),
+            self.follows().map(|follows| ("Follows:", follows)),
             decision,
             Some(("Cost:", self.cost())),
             self.allowance().map(|allowance| ("Allowance:", allowance_left(allowance))),
@@ -82,6 +82,7 @@ fn call(call: &Call) -> String {
     match &call.action {
         Action::Open { .. } => format!("open of {connection}"),
         Action::Close { .. } => format!("close of {connection}"),
+        Action::Keepalive { .. } => format!("keepalive check of {connection}"),
         Action::Message { message, .. } => format!("message from {connection}: {}", described(message)),
     }
 }

@@ -4,7 +4,7 @@ use engine::relay::{BUFFER, RANDOM};
 use peer::grouped;
 use server::{calls, CLOCK_LIMIT};
 
-use super::call::{Action, CONNECTIONS};
+use super::call::{Action, Due, CONNECTIONS};
 use super::explanation::{Decision, Explanation};
 
 /// Types of messages that peers send, with the form of each.
@@ -48,6 +48,9 @@ fn buffers(action: &Action) -> String {
     match action {
         Action::Open { reply_length } => buffer("reply", BUFFER, *reply_length),
         Action::Close { relay_length } => buffer("relay", BUFFER, *relay_length),
+        Action::Keepalive { reply_length, relay_length } => {
+            [buffer("reply", BUFFER, *reply_length), buffer("relay", BUFFER, *relay_length)].join("; ")
+        }
         Action::Message { message, random, reply_length, relay_length } => format!(
             "there must be {RANDOM} random bytes and there are {}; {}; {}",
             grouped(random.len() as u64),
@@ -73,6 +76,15 @@ fn not_permitted(message: &[u8]) -> String {
     match message.first() {
         Some(1) => "the connection has answered the relay's version already".into(),
         _ => "the connection hasn't answered the relay's version yet, and nothing else may come before".into(),
+    }
+}
+
+/// What a keepalive check does.
+pub fn due(due: Due) -> &'static str {
+    match due {
+        Due::Nothing => "nothing, there is no need to ask the peer yet, or time left for its answer",
+        Due::Keepalive => "a Keepalive is sent to the peer",
+        Due::Close => "the connection is closed, since its peer hasn't answered a Keepalive in time",
     }
 }
 

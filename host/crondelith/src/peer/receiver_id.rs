@@ -11,8 +11,8 @@ use crate::{note, Failure, Outcome};
 
 const NOT_RENEWED: &str = "\
 the relay hasn't renewed the id of before, and this is a new one: tell it to those who send, as the old one doesn't \
-lead here now. A relay renews no id whose last connection it takes for open still (after a power cut for some \
-minutes), nor one of another partner or relay, or that is another's by now, or that it has lost";
+lead here now. A relay renews no id whose last connection it takes for open still (after a power cut for a minute \
+and a half), nor one of another partner or relay, or that is another's by now, or that it has lost";
 const NOT_EXTENDED: &str =
     "the relay hasn't extended the lease; this is a new id, and the old one doesn't lead here now";
 

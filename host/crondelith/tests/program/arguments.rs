@@ -6,7 +6,7 @@ use std::net::TcpListener;
 use crate::support::{folder, run, text, PROGRAM};
 
 /// The words that lead to a command, and one of its help.
-const COMMANDS: [(&[&str], &str); 11] = [
+const COMMANDS: [(&[&str], &str); 12] = [
     (&[], "crondelith <COMMAND>"),
     (&["serve"], "crondelith serve [OPTIONS]"),
     (&["peer"], "crondelith peer [OPTIONS] <COMMAND>"),
@@ -16,6 +16,7 @@ const COMMANDS: [(&[&str], &str); 11] = [
     (&["explain", "open"], "crondelith explain <STATE> open [OPTIONS]"),
     (&["explain", "message"], "crondelith explain <STATE> message [OPTIONS]"),
     (&["explain", "close"], "crondelith explain <STATE> close [OPTIONS]"),
+    (&["explain", "keepalive"], "crondelith explain <STATE> keepalive [OPTIONS]"),
     (&["demo"], "crondelith demo"),
     (&["bench"], "crondelith bench [OPTIONS]"),
 ];
@@ -62,7 +63,7 @@ fn the_version_is_printed() {
 }
 
 /// Arguments, and the reason why they are wrong.
-const WRONG: [(&[&str], &str); 57] = [
+const WRONG: [(&[&str], &str); 59] = [
     (&[], "'crondelith' requires a subcommand"),
     (&["dance"], "'dance' wasn't recognized"),
     (&["help", "dance"], "'dance' wasn't recognized"),
@@ -111,7 +112,7 @@ const WRONG: [(&[&str], &str); 57] = [
     (&["explain", "state", "open", "--connection", "1", "--hex", "02"], "'--hex' is an option of 'message'"),
     (
         &["explain", "state", "open", "--connection", "1", "--relay-length", "9"],
-        "'--relay-length' is an option of 'message' and 'close'",
+        "'--relay-length' is an option of 'message', 'close' and 'keepalive'",
     ),
     (&["explain", "state", "open", "--connection", "1", "--file", "f"], "'--file' is an option of 'message'"),
     (&["explain", "state", "open", "--connection", "1", "--random", ""], "'--random' is an option of 'message'"),
@@ -120,8 +121,10 @@ const WRONG: [(&[&str], &str); 57] = [
     (&["explain", "state", "close", "--connection", "1", "--random", "00"], "'--random' is an option of 'message'"),
     (
         &["explain", "state", "close", "--connection", "1", "--reply-length", "9"],
-        "'--reply-length' is an option of 'open' and 'message'",
+        "'--reply-length' is an option of 'open', 'message' and 'keepalive'",
     ),
+    (&["explain", "state", "keepalive", "--connection", "1", "--hex", "0d"], "'--hex' is an option of 'message'"),
+    (&["explain", "state", "keepalive"], "'--connection' has to be given"),
     (&["explain", "state", "message", "--connection", "1"], "the message has to be given, by '--hex' or '--file'"),
     (&["explain", "state", "message", "--hex", "020"], "'020' has an odd number of digits"),
     (&["explain", "state", "message", "--random", "0g"], "'g' isn't a hex digit"),

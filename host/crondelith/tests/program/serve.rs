@@ -117,7 +117,7 @@ fn the_help_tells_the_limits() {
     let [patience, version, frame, last_words] = [patience, version, frame, last_words].map(|time| time.as_secs());
     for told in [
         format!("takes less than {} KiB of what waits for it in {patience} seconds", least_progress / 1_024),
-        format!("doesn't answer the relay's version in {version}, or leaves a frame unfinished for {frame};"),
+        format!("doesn't answer the relay's version in {version}, or leaves a frame unfinished for {frame}."),
         format!("has {last_words} seconds to be written"),
     ] {
         assert!(help.contains(&told), "{told}: {help}");

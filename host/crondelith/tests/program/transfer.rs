@@ -9,7 +9,7 @@ use std::time::Duration;
 use codec::{Message, Session};
 use peer::Fingerprint;
 
-use crate::support::{files, folder, program, run, text, write_file, Relay, Running};
+use crate::support::{becomes_true, files, folder, program, run, text, write_file, Relay, Running};
 
 #[test]
 fn a_file_goes_through_the_relay() {
@@ -59,6 +59,28 @@ fn a_transfer_that_stands_still_is_given_up_at_its_limit() {
     let ended = sender.end_within(Duration::from_secs(8));
     assert_eq!(ended.status, Some(1), "{}", ended.stderr);
     assert!(ended.last_line().contains("2 s"), "{}", ended.stderr);
+}
+
+/// Waits for a program's thread that tells a relay of it while its others wait for a disk, say.
+fn has_heartbeat(running: &Running) -> bool {
+    becomes_true(Duration::from_secs(5), || {
+        let threads = fs::read_dir(format!("/proc/{}/task", running.id())).expect("its threads");
+        let mut names = threads.flatten().map(|thread| fs::read_to_string(thread.path().join("comm")));
+        names.any(|name| name.is_ok_and(|name| name.trim() == "heartbeat"))
+    })
+}
+
+#[test]
+fn either_side_can_say_that_it_is_there_whatever_it_waits_for() {
+    let relay = Relay::start(&[]);
+    let folder = folder("heartbeats");
+    let original = folder.join("original");
+    write_file(&original, 1_000_000);
+    let (receiver, id) = relay.receiver(&folder.join("copy"), &[]);
+    assert!(has_heartbeat(&receiver));
+    let mut sender = Running::start(&mut relay.peer(&["send", &id, text(&original)]));
+    sender.await_line("the session is established").expect("a session");
+    assert!(has_heartbeat(&sender));
 }
 
 /// A receiver at a relay of the test's own, which sends it a file of one byte, all but the digest.

@@ -235,7 +235,7 @@ fn a_lease_is_extended_and_else_another_id_leased() {
     relay.join().expect("the relay");
 }
 
-/// The peer was stopped for longer than its lease, say.
+/// Its request for more time came too late, say.
 #[test]
 fn a_lease_that_has_ended_is_renewed() {
     let (address, relay) = scripted(|mut connection| {

@@ -20,6 +20,7 @@ impl EventLoop {
         self.retry_waiting();
         self.turn_away();
         (0..self.connections.len()).for_each(|number| self.expire_connection(number));
+        self.check_peers();
         if self.tick <= self.now {
             self.tick = self.now + TICK;
             self.save_state();
@@ -32,7 +33,7 @@ impl EventLoop {
         let ports = self.partners.iter().filter_map(|partner| partner.port.deadline());
         let patience = self.limits.patience;
         let connections = self.connections.iter().flatten().flat_map(|connection| connection.deadlines(patience));
-        let others = self.retry.into_iter().chain(self.stops);
+        let others = self.retry.into_iter().chain(self.stops).chain([self.next_check]);
         ports.chain(connections).chain(others).fold(self.tick, Instant::min)
     }
 

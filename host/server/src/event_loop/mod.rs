@@ -8,6 +8,7 @@ mod accept;
 mod deadlines;
 mod deliver;
 mod end;
+mod keepalives;
 mod read;
 mod serve;
 mod stop;
@@ -80,6 +81,8 @@ pub struct EventLoop {
     retry: Option<Instant>,
     /// When the state and the clock are looked at.
     tick: Instant,
+    /// When the engine is asked which peers are still there.
+    next_check: Instant,
     /// The drift of the clock that the log has.
     logged_drift: u64,
     /// The relay ends, at this time even if something is still to be written.
@@ -132,6 +135,7 @@ impl EventLoop {
             earliest: now,
             retry: None,
             tick: now,
+            next_check: now,
             logged_drift: 0,
             stops: None,
         };

@@ -4,6 +4,7 @@ mod allowance;
 mod clocks;
 mod deadlines;
 mod floods;
+mod keepalives;
 mod log_lines;
 mod numbers;
 mod slow_readers;

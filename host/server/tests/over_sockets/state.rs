@@ -6,7 +6,7 @@ use std::path::Path;
 use std::thread;
 use std::time::{Duration, Instant};
 
-use codec::Message;
+use codec::{encode, Message};
 use server::{bind_free, Log, LogFormat, Server, Settings, SystemClock};
 use tempfile::TempDir;
 
@@ -15,6 +15,10 @@ use crate::support::{Relay, LIMIT};
 
 /// Bytes of the three tables.
 const SIZE: usize = 4_096 + 5_120 + 144;
+/// The state of an open connection, the first byte of its record.
+const OPEN: u8 = 2;
+/// Where the first connection's record tells whether a Keepalive is unanswered.
+const UNANSWERED: usize = 2;
 
 fn folder() -> TempDir {
     tempfile::tempdir().expect("a folder")
@@ -72,17 +76,22 @@ fn leases_and_allowances_go_on_after_a_restart() {
     assert_eq!(establish_status(&relay, id), 1, "the lease has ended meanwhile");
 }
 
-/// Waits until the state file is another than this.
-fn await_change(file: &Path, old: &[u8]) -> Vec<u8> {
+/// Waits until a state is saved that is as it should be.
+fn await_saved(file: &Path, is_awaited: impl Fn(&[u8]) -> bool) -> Vec<u8> {
     let end = Instant::now() + LIMIT;
     loop {
         let bytes = fs::read(file).expect("a state");
-        if bytes != old {
+        if is_awaited(&bytes) {
             return bytes;
         }
         assert!(Instant::now() < end, "nothing is saved");
         thread::sleep(Duration::from_millis(10));
     }
+}
+
+/// The clock of the tables is their last number.
+fn clock_of(tables: &[u8]) -> u64 {
+    u64::from_be_bytes(*tables.last_chunk().expect("a clock"))
 }
 
 #[test]
@@ -94,7 +103,7 @@ fn the_state_is_saved_while_the_relay_runs_and_connections_of_a_killed_one_are_c
     let eight: Vec<_> = (0..8).map(|_| relay.peer(0)).collect();
     let start = Instant::now();
     thread::sleep(Duration::from_millis(100));
-    let saved = await_change(&file, &fresh);
+    let saved = await_saved(&file, |bytes| bytes != fresh);
     // Half a second, and what a busy machine takes.
     assert!(start.elapsed() < Duration::from_secs(3), "it took {:?}", start.elapsed());
     // What a killed relay would leave: some connections are open in it.
@@ -103,6 +112,26 @@ fn the_state_is_saved_while_the_relay_runs_and_connections_of_a_killed_one_are_c
     let second = with_state(SystemClock::new(), &copy);
     let mut again: Vec<_> = (0..8).map(|_| second.peer(0)).collect();
     assert!(again.iter_mut().all(|peer| peer.lease() < 1 << 26));
+}
+
+#[test]
+fn a_keepalive_of_a_killed_relay_is_forgotten() {
+    let folder = folder();
+    let (file, copy) = (folder.path().join("state"), folder.path().join("copy"));
+    let clock = Standing::from(1_000);
+    let relay = with_state(clock.clone(), &file);
+    let _silent = relay.peer(0);
+    relay.await_done(0, 2);
+    clock.pass(30);
+    fs::write(&copy, await_saved(&file, |bytes| bytes[UNANSWERED] == 1)).expect("a copy");
+    let clock = Standing::from(2_000);
+    let second = with_state(clock.clone(), &copy);
+    let mut peer = second.peer(0);
+    second.await_done(0, 2);
+    clock.pass(29);
+    assert!(peer.is_quiet(), "it is neither asked nor closed");
+    clock.pass(1);
+    assert_eq!(peer.receive(), encode(&Message::Keepalive));
 }
 
 #[test]
@@ -173,12 +202,22 @@ fn nothing_is_written_while_nothing_changes() {
     use std::os::unix::fs::MetadataExt;
     let folder = folder();
     let file = folder.path().join("state");
-    let _relay = with_state(SystemClock::new(), &file);
+    let clock = Standing::from(1_000);
+    let relay = with_state(clock.clone(), &file);
+    // While a peer says nothing only the clock's seconds change.
+    let silent = relay.peer(0);
+    await_saved(&file, |bytes| bytes[0] == OPEN);
     // A save makes another file of that name.
     let inode = || fs::metadata(&file).expect("a file").ino();
     let before = inode();
-    thread::sleep(Duration::from_millis(1_200));
+    for _ in 0..3 {
+        clock.pass(1);
+        thread::sleep(Duration::from_millis(400));
+    }
     assert_eq!(inode(), before);
+    silent.leave();
+    relay.stop();
+    assert_eq!(clock_of(&fs::read(&file).expect("a state")), 1_003, "at the end it is saved as it is");
 }
 
 #[test]

@@ -153,6 +153,14 @@ impl Socket {
         self.reader.next(&mut self.stream).ok().flatten().map(<[u8]>::to_vec)
     }
 
+    /// Whether nothing has come, neither a message nor the end.
+    pub fn is_quiet(&mut self) -> bool {
+        self.stream.set_read_timeout(Some(Duration::from_millis(1))).expect("a timeout");
+        let is_quiet = self.reader.next(&mut self.stream).is_err_and(|error| error.is_timeout());
+        self.stream.set_read_timeout(Some(LIMIT)).expect("a timeout");
+        is_quiet
+    }
+
     /// Whether the relay has closed the connection. What it sent before is passed over.
     pub fn is_closed(&mut self) -> bool {
         let mut rest = Vec::new();
@@ -170,10 +178,15 @@ impl Socket {
 
     /// Leases an id.
     pub fn lease(&mut self) -> u32 {
-        self.send(Message::LeaseRequest);
+        self.lease_by(Message::LeaseRequest).0
+    }
+
+    /// Leases an id by this request. Gives it with its cookie.
+    pub fn lease_by(&mut self, request: Message) -> (u32, Vec<u8>) {
+        self.send(request);
         let answer = self.receive().expect("an answer");
         match codec::decode(&answer) {
-            Some(Message::LeaseGranted { id, .. }) => id,
+            Some(Message::LeaseGranted { id, cookie, .. }) => (id, cookie.to_vec()),
             other => panic!("{other:?}"),
         }
     }

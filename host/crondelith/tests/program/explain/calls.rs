@@ -1,9 +1,16 @@
 //! Which check stops a call.
 
+use std::fs;
+
 use serde_json::{json, Value};
 use server::{CONNECTIONS_EACH, PARTNERS};
 
-use super::{assert_has, assert_lacks, establish, explain, explain_message, Scene, FIRST, KEEPALIVE, SECOND, THIRD};
+use super::{
+    assert_has, assert_lacks, clock, establish, explain, explain_message, told, Scene, FIRST, KEEPALIVE, SECOND, THIRD,
+};
+
+/// Bytes of a connection's record.
+const CONNECTION_RECORD: usize = 64;
 
 #[test]
 fn messages_to_a_relay_that_runs() {
@@ -51,6 +58,52 @@ fn opens_and_closes_of_a_relay_that_runs() {
         assert_has(&explain(state, call), expected);
     }
     assert_lacks(&explain(state, &["close", "--connection", first]), &["cost", "level", "headroom", "left"]);
+}
+
+#[test]
+fn keepalive_checks_of_a_relay_that_runs() {
+    let Scene { state, .. } = &Scene::start("explain_checks");
+    let (first, third, fourth) = (&FIRST.to_string()[..], &THIRD.to_string()[..], &(FIRST + 3).to_string()[..]);
+    let later = (clock(state) + 30).to_string();
+    let cases: [(&[&str], Value); 7] = [
+        (&[first], json!({ "call": "keepalive", "check": 0, "done": true, "free": true })),
+        (&[first, "--time", &later], json!({ "check": 0, "follows": "a Keepalive is sent to the peer" })),
+        // Whether it has answered the version or not.
+        (&[third, "--time", &later], json!({ "check": 0, "follows": "a Keepalive is sent to the peer" })),
+        (&[fourth], json!({ "check": 4, "done": false })),
+        (&[first, "--reply-length", "63"], json!({ "check": 5 })),
+        (&[first, "--relay-length", "63"], json!({ "check": 5 })),
+        (&[first, "--time", "5"], json!({ "check": 2 })),
+    ];
+    for (options, expected) in cases {
+        let object = explain(state, &[&["keepalive", "--connection"], options].concat());
+        assert_has(&object, expected);
+        assert_lacks(&object, &["cost", "level", "headroom", "left", "request"]);
+        assert!(object["check"] == 0 || object.get("follows").is_none(), "{object}");
+    }
+}
+
+#[test]
+fn a_keepalive_that_is_unanswered() {
+    let Scene { state, .. } = &Scene::start("explain_unanswered");
+    let asked = clock(state);
+    let mut bytes = fs::read(state).expect("a state");
+    let record = &mut bytes[FIRST * CONNECTION_RECORD..];
+    // Unanswered, and since when: five bytes.
+    record[2] = 1;
+    record[9..14].copy_from_slice(&asked.to_be_bytes()[3..]);
+    let copy = state.with_extension("copy");
+    fs::write(&copy, bytes).expect("a copy");
+    for (time, words) in [(asked + 59, "nothing, "), (asked + 60, "the connection is closed, ")] {
+        let call = ["keepalive", "--connection", &FIRST.to_string(), "--time", &time.to_string()];
+        let object = explain(&copy, &call);
+        assert!(
+            object["check"] == 0 && object["follows"].as_str().is_some_and(|told| told.starts_with(words)),
+            "{object}"
+        );
+        let text = told(&copy, &call);
+        assert!(text.contains(&format!("Follows:    {words}")), "{text}");
+    }
 }
 
 #[test]
