@@ -6,6 +6,7 @@ use std::time::Duration;
 
 use codec::{encode, Message};
 use server::{JumpingClock, CONNECTIONS_EACH};
+use socket2::SockRef;
 
 use crate::clocks::{Halting, Standing};
 use crate::support::{Relay, Socket};
@@ -14,6 +15,8 @@ use crate::support::{Relay, Socket};
 const ASKED: u64 = 30;
 /// .. and has so long to answer.
 const ANSWERED: u64 = 60;
+/// Of a peer's own kernel buffers.
+const SMALL: usize = 32_768;
 /// The log's end of a line about one that hasn't.
 const UNANSWERED: &str = "closed, the peer hasn't answered a Keepalive in time";
 
@@ -209,20 +212,19 @@ fn an_answer_that_waits_for_allowance_is_one() {
     assert!(!relay.has_line("closed"));
 }
 
-/// Sends this frame until the relay accepts no more of it, since its receiver reads nothing. Gives how many bytes were sent.
+/// Sends this frame until the relay has accepted no more of it for a while, since its receiver reads nothing. Gives how many
+/// bytes were sent.
 fn fill(clock: &Standing, relay: &Relay, caller: &mut Socket, frame: &[u8]) -> usize {
     caller.stream.set_nonblocking(true).expect("a mode");
     let accepted = || relay.server.statistics()[0].bytes;
-    let (mut sent, mut before) = (0, (0, 0));
-    while before != (sent, accepted()) {
-        before = (sent, accepted());
-        while let Ok(count) = caller.stream.write(&frame[sent % frame.len()..]) {
-            sent += count;
-        }
-        assert!(sent < 1 << 24, "no end");
-        // The relay has turns enough to accept a frame, and it is paid for.
-        clock.pass(1);
-        clock.pass(1);
+    let (mut sent, mut quiet) = (0, 0);
+    while quiet < 30 {
+        let before = (sent, accepted());
+        sent += caller.stream.write(&frame[sent % frame.len()..]).unwrap_or(0);
+        // The relay has turns enough to accept a frame, and a second pays for it.
+        clock.pass(u64::from(quiet == 0));
+        quiet = if before == (sent, accepted()) { quiet + 1 } else { 0 };
+        thread::sleep(Duration::from_millis(if quiet == 0 { 0 } else { 10 }));
     }
     caller.stream.set_nonblocking(false).expect("a mode");
     sent
@@ -233,6 +235,9 @@ fn fill(clock: &Standing, relay: &Relay, caller: &mut Socket, frame: &[u8]) -> u
 fn who_is_held_up_by_the_relay_is_not_judged() {
     let (clock, relay) = start();
     let [mut caller, mut slow] = peers(&relay);
+    // So that what is on its way is with the relay.
+    SockRef::from(&caller.stream).set_send_buffer_size(SMALL).expect("a size");
+    SockRef::from(&slow.stream).set_recv_buffer_size(SMALL).expect("a size");
     caller.establish(&mut slow);
     let (mut frame, data) = (Vec::new(), Message::DataReceive { data: &[7; 65_000] });
     frames::append(&[&[11], &[7; 65_000][..]].concat(), &mut frame).expect("a frame");

@@ -76,9 +76,9 @@ fn leases_and_allowances_go_on_after_a_restart() {
     assert_eq!(establish_status(&relay, id), 1, "the lease has ended meanwhile");
 }
 
-/// Waits until a state is saved that is as it should be.
+/// Waits until a state is saved that is as it should be. A busy disk may take ten seconds for it.
 fn await_saved(file: &Path, is_awaited: impl Fn(&[u8]) -> bool) -> Vec<u8> {
-    let end = Instant::now() + LIMIT;
+    let end = Instant::now() + 4 * LIMIT;
     loop {
         let bytes = fs::read(file).expect("a state");
         if is_awaited(&bytes) {
