@@ -104,8 +104,8 @@ fn the_state_is_saved_while_the_relay_runs_and_connections_of_a_killed_one_are_c
     let start = Instant::now();
     thread::sleep(Duration::from_millis(100));
     let saved = await_saved(&file, |bytes| bytes != fresh);
-    // Half a second, and what a busy machine takes.
-    assert!(start.elapsed() < Duration::from_secs(3), "it took {:?}", start.elapsed());
+    // Half a second, and what a busy disk takes: a sync may stand for ten seconds there.
+    assert!(start.elapsed() < Duration::from_secs(30), "it took {:?}", start.elapsed());
     // What a killed relay would leave: some connections are open in it.
     fs::write(&copy, saved).expect("a copy");
     drop(eight);
