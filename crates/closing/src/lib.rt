@@ -1,4 +1,5 @@
-// A connection that ends, by a close or because it is dead: its session, the rows that name it, and its record.
+// A connection that ends, by a close or because it is dead: its session, the rows that name it, and its record. That it is one of the
+// table's, and that the buffer has room, the checks have shown.
 ghost use mathlib.Core.Path.{_≡_};
 ghost use mathlib.Core.List.{List};
 ghost use Prim.Native.Nat.{ℕ, _≤_, _<_};

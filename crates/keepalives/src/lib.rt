@@ -29,7 +29,7 @@ fn elapsed(time: u64, since: u64) -> u64
     time - since
 }
 
-// Whether a keepalive has been unanswered for too long.
+// Whether a keepalive has been unanswered for too long. Of tables of the right size: no answer would serve where the times aren't there.
 pub fn is_dead(connections: &[u8], time: u64, c: u8) -> bool
     requires { ⌜ (length (now connections) ≡ connectionsSize) × (c < connectionCount) ⌝ }
     ensures { λ r. ⌜ r ≡ isDead (now (connections .entry)) time c ⌝ }
@@ -42,7 +42,7 @@ pub fn is_dead(connections: &[u8], time: u64, c: u8) -> bool
     is_unanswered(connections, c) & (rules::ANSWER_TIMEOUT <= waited)
 }
 
-// Whether none is unanswered and nothing has been sent for long enough.
+// Whether none is unanswered and nothing has been sent for long enough; of the same tables.
 pub fn is_due(connections: &[u8], time: u64, c: u8) -> bool
     requires { ⌜ (length (now connections) ≡ connectionsSize) × (c < connectionCount) ⌝ }
     ensures { λ r. ⌜ r ≡ isDue (now (connections .entry)) time c ⌝ }

@@ -8,7 +8,7 @@ use lib.ListN.{length}
 use borrow.Author.Tests.{eq-eqb, ne-eqb}
 use Rattle.svsc.specs.Messages.{typeOf}
 use Rattle.rules.specs.Calls.{opening, message, closing, keepalive}
-use Rattle.rules.specs.Charges.{charged, cost}
+use Rattle.rules.specs.Charges.{charged, received, cost}
 use Rattle.rules.proofs.Exactly.{eq-exactly, not-exactly}
 
 -- "Opens and messages other than SessionEnd are charged"
@@ -45,3 +45,7 @@ close-cost now c relay = refl
 pub keepalive-cost : (now c : ℕ) (reply relay : List ℕ) → cost (keepalive now c reply relay) ≡ 0
 unfolding cost
 keepalive-cost now c reply relay = refl
+
+-- nor does it receive anything
+pub keepalive-received : (now c : ℕ) (reply relay : List ℕ) → received (keepalive now c reply relay) ≡ 0
+keepalive-received now c reply relay = refl

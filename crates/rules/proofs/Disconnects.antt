@@ -20,7 +20,7 @@ use Rattle.rules.specs.Plans.{Plan, planOpen, planLease, planExtension, 
 use Rattle.rules.specs.Calls.{Call, opening, message, closing, keepalive, timeOf, connectionOf, Answer}
 use Rattle.rules.specs.Charges.{received}
 use Rattle.rules.specs.Step.{step, done}
-use Rattle.rules.specs.Laws.{Accepted, HangsUp}
+use Rattle.rules.specs.Laws.{Accepted, EndsCaller}
 use Rattle.rules.proofs.Checks.{from-peer}
 use Rattle.rules.proofs.Messages.{by-type}
 use Rattle.rules.proofs.MessageLaws.{answered-ok, answered-not-ok}
@@ -72,7 +72,7 @@ stays-connected tables call e n k =
 
 -- The caller is disconnected exactly by a version answer of 0, and by a keepalive that finds it dead.
 pub disconnected-exactly : (tables : Tables) (call : Call) → Accepted tables call
-    → (step tables call .answer .disconnect ≡ true) ↔ HangsUp (tables .connections) call
+    → (step tables call .answer .disconnect ≡ true) ↔ EndsCaller (tables .connections) call
 disconnected-exactly tables (opening now c reply) e = (
   (λ h. false≢true (sym (stays-connected tables (opening now c reply) e (λ z. omega arith) (λ z. omega arith)) ∙ h)),
   (λ x. absurd x),

@@ -12,7 +12,7 @@ use Rattle.octets.specs.Octets.{put}
 use Rattle.octets.proofs.Tests.{by-test as either-way}
 use Rattle.svsc.specs.Messages.{Keepalive, encode}
 use Rattle.rules.specs.Sizes.{leastBuffer}
-use Rattle.rules.specs.Tables.{Tables, unansweredAt}
+use Rattle.rules.specs.Tables.{Tables, unansweredAt, keepaliveAt}
 use Rattle.rules.specs.Keepalives.{isDead, isDue, ask, stamp}
 use Rattle.rules.specs.Calls.{Call, closing, keepalive, Outcome, Answer}
 use Rattle.rules.specs.Plans.{Plan, replyOnly, doNothing, planClose, disconnecting, planKeepalive, planCall, stamped, plan}
@@ -25,7 +25,7 @@ use Rattle.rules.proofs.Checks.{Passed, passed, keepalive-room}
 use Rattle.rules.proofs.Answers.{answer-is-check, is-done, done-passed}
 use Rattle.rules.proofs.Exactly.{refuted}
 use Rattle.rules.proofs.Changes.{changed-both}
-use Rattle.rules.proofs.Marks.{dead-exactly, due-exactly, changed-ask, changed-last-sent, asked-at, asked-unanswered, sent-at, keepalive-beside}
+use Rattle.rules.proofs.Marks.{dead-exactly, due-exactly, changed-ask, changed-last-sent, asked-at, asked-unanswered, sent-at, time-kept}
 use Rattle.rules.proofs.MessageLaws.{replied, sent-nothing}
 
 module _ (tables : Tables) (now c : ℕ) (reply relay : List ℕ) (e : Accepted tables (keepalive now c reply relay)) where
@@ -98,7 +98,8 @@ module _ (tables : Tables) (now c : ℕ) (reply relay : List ℕ) (e : Accepted 
             sym (stamped .at (unansweredAt c) (λ p. omega (arith, p .0, p .1)))
             ∙ asked-unanswered cs now c (fit .connections) (fit .known);
         last-sent = sent-at asks now c (size ∙ fit .connections) (fit .known) (fit .in-limit);
-        keepalive-sent = keepalive-beside asks c now ∙ asked-at cs now c (fit .connections) (fit .known) (fit .in-limit);
+        keepalive-sent =
+            time-kept stamped (keepaliveAt c) now (λ i l u p. omega (arith, p .0, p .1)) (asked-at cs now c (fit .connections) (fit .known) (fit .in-limit));
         stay = record { connections = changed-both (changed-ask cs now c) stamped; leases = refl };
       })
 

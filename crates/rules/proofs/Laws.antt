@@ -183,7 +183,7 @@ module _ (lent : Tables) (now : ℕ) (e : start lent now .answer .number ≡ 0) 
   pub live-ids-distinct : (calls : List Call) (t : ℕ) → clock (after made calls .allowances) ≤ t → DistinctIds (after made calls .leases) t
   live-ids-distinct calls t l = distinct-later _ _ t l (run-distinct calls made (rw (started-fresh lent now e) (distinct-fresh now _)))
 
-  -- Bytes 2-15 of every connection record and 13-15 of every lease row are zero.
+  -- Bytes 3, 14 and 15 of every connection record and 13-15 of every lease row are zero.
   pub spare-bytes-zero : (calls : List Call) → SpareZero (after made calls)
   spare-bytes-zero calls = run-spare calls made (rw (started-fresh lent now e) (fresh-spare now))
 

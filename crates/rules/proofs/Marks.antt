@@ -9,17 +9,17 @@ use native.Mathlib.Decide.{ℕ-discrete}
 use lib.Dec.{eqb, leb}
 use lib.ListN.{length}
 use borrow.Author.Tests.{eq-eqb, ne-eqb, eqb-false}
-use Rattle.octets.specs.Octets.{if_then_else_, byteAt, bigEndian, part, numberAt}
+use Rattle.octets.specs.Octets.{if_then_else_, byteAt, bigEndian, part, numberAt, put}
 use Rattle.octets.proofs.Numbers.{length-bigEndian}
-use Rattle.octets.proofs.Stores.{length-put, numberAt-put}
+use Rattle.octets.proofs.Stores.{length-put, part-put, numberAt-put}
 use Rattle.rules.specs.Sizes.{connectionCount, connectionBytes, connectionsSize, timeBytes, timeLimit, keepaliveTimeout, answerTimeout}
 use Rattle.rules.specs.Tables.{connectionAt, peerAt, unansweredAt, lastSentAt, keepaliveAt, keysAt, keysBytes, opened, closed, state, peer, inSession, isUnanswered, lastSent, keepaliveSent, setUnanswered, setLastSent, setKeepaliveSent}
 use Rattle.rules.specs.Keepalives.{elapsed, isDead, isDue, ask, answered, stamp}
 use Rattle.rules.specs.Calls.{Call, opening, message, closing, keepalive, timeOf, connectionOf}
 use Rattle.rules.specs.Plans.{Plan, answeredBy}
 use Rattle.rules.specs.Bytes.{ChangedOnly}
-use Rattle.rules.specs.Effects.{InUnanswered, InLastSent, InKeepaliveSent, InOwnMarks, freshByte, FreshBut, Cleared, IsMessage, Stamped, Answered, Dead, Due}
-use Rattle.rules.proofs.Records.{Kept, kept-same, kept-trans, kept-put, number-beside, byte-beside, byte-put}
+use Rattle.rules.specs.Effects.{InUnanswered, InLastSent, InKeepaliveSent, InOwnMarks, freshByte, FreshBut, Cleared, IsMessage, TimeAt, Stamped, Answered, Dead, Due}
+use Rattle.rules.proofs.Records.{Kept, kept-same, kept-trans, kept-put, byte-beside, byte-put}
 use Rattle.rules.proofs.Same.{same-refl, same-trans, same-part, same-number}
 use Rattle.rules.proofs.Changes.{changed-more, changed-both, changed-at}
 use Rattle.rules.proofs.Plans.{by-test}
@@ -59,17 +59,28 @@ length-stamp cs now n c = sym (changed-stamp cs c now n .long)
 pub length-answered : (cs : List ℕ) (c : ℕ) → length (answered cs c) ≡ length cs
 length-answered cs c = sym (changed-answered cs c .long)
 
-module _ (cs : List ℕ) (now c : ℕ) (size : length cs ≡ connectionsSize) (c< : c < connectionCount) (now< : now < timeLimit) where
-  pub sent-at : lastSent (setLastSent cs c now) c ≡ now
-  unfolding lastSent
-  sent-at = numberAt-put cs (lastSentAt c) timeBytes now (omega arith) (omega arith)
+-- a time that is written, and one beside which something is written
+time-put : (cs : List ℕ) (at time : ℕ) → at + timeBytes ≤ length cs → time < timeLimit → TimeAt (put cs at (bigEndian timeBytes time)) at time
+time-put cs at time room time< = record {
+  bytes = rw (length-bigEndian timeBytes time) at (part-put cs at (bigEndian timeBytes time) (omega (arith, length-bigEndian timeBytes time)));
+  number = numberAt-put cs at timeBytes time room (omega arith);
+}
 
-  pub asked-at : keepaliveSent (ask cs now c) c ≡ now
-  unfolding ask keepaliveSent
-  asked-at =
-      numberAt-put (setUnanswered cs c 1) (keepaliveAt c) timeBytes now
-      (omega (arith, length-put cs (unansweredAt c) (1 ∷ [])))
-      (omega arith)
+pub time-kept : {P : ℕ → Type 0} {cs ds : List ℕ} → ChangedOnly P cs ds → (at time : ℕ) → ((i : ℕ) → at ≤ i → i < at + timeBytes → P i → ⊥)
+    → TimeAt cs at time
+    → TimeAt ds at time
+time-kept s at time apart t = record {
+  bytes = sym (same-part s at timeBytes apart) ∙ t .bytes;
+  number = sym (same-number s at timeBytes apart) ∙ t .number;
+}
+
+module _ (cs : List ℕ) (now c : ℕ) (size : length cs ≡ connectionsSize) (c< : c < connectionCount) (now< : now < timeLimit) where
+  pub sent-at : TimeAt (setLastSent cs c now) (lastSentAt c) now
+  sent-at = time-put cs (lastSentAt c) now (omega arith) now<
+
+  pub asked-at : TimeAt (ask cs now c) (keepaliveAt c) now
+  unfolding ask
+  asked-at = time-put (setUnanswered cs c 1) (keepaliveAt c) now (omega (arith, length-put cs (unansweredAt c) (1 ∷ []))) now<
 
 -- a message of some bytes
 pub stamp-some : (cs : List ℕ) (now n c : ℕ) → n ≢ 0 → stamp cs now n c ≡ setLastSent cs c now
@@ -99,24 +110,15 @@ asked-unanswered cs now c size c< =
     byte-beside (setUnanswered cs c 1) (keepaliveAt c) (bigEndian timeBytes now) (unansweredAt c) (λ l. absurd (omega arith))
     ∙ byte-put cs (unansweredAt c) 1 (omega arith)
 
--- the time of a keepalive stays where a message is sent
-pub keepalive-beside : (cs : List ℕ) (c time : ℕ) → keepaliveSent (setLastSent cs c time) c ≡ keepaliveSent cs c
-unfolding keepaliveSent
-keepalive-beside cs c time = sym (same-number (changed-last-sent cs c time) (keepaliveAt c) timeBytes (λ i l u p. omega (arith, p .0, p .1)))
-
 -- a stamp of one record beside the stamp of another, or of the same
 pub stamp-kept : (cs : List ℕ) (now n c d : ℕ) → length cs ≡ connectionsSize → c < connectionCount → now < timeLimit
-    → lastSent cs c ≡ now → lastSent (stamp cs now n d) c ≡ now
+    → TimeAt cs (lastSentAt c) now → TimeAt (stamp cs now n d) (lastSentAt c) now
 stamp-kept cs now n c d size c< now< e = go (ℕ-discrete n 0) (ℕ-discrete d c)
   where
-    go : Dec (n ≡ 0) → Dec (d ≡ c) → lastSent (stamp cs now n d) c ≡ now
+    go : Dec (n ≡ 0) → Dec (d ≡ c) → TimeAt (stamp cs now n d) (lastSentAt c) now
     go (yes z) s = rw (stamp-none cs now n d z) e
     go (no z) (yes s) = rw (stamp-some cs now n d z, s) (sent-at cs now c size c< now<)
-    go (no z) (no s) =
-        rw (stamp-some cs now n d z)
-        (unfold lastSent in
-        number-beside cs (lastSentAt d) (bigEndian timeBytes now) (lastSentAt c) timeBytes
-        (λ l. omega (arith, length-bigEndian timeBytes now, s)) ∙ (unfold lastSent in e))
+    go (no z) (no s) = time-kept (changed-stamp cs d now n) (lastSentAt c) now (λ i l u p. omega (arith, p .0, p .1, s)) e
 
 -- ---- what is left
 
@@ -257,8 +259,8 @@ module _ (call : Call) (x : Plan) where
       (changed-more (λ i p. (omega (arith, p .0, p .1), omega (arith, p .0, p .1))) (changed-stamp repliedTo (x .destination) now (length (x .relay)))))
 
   pub record PlanMarked : Type 0 where
-    pub replied : length (x .reply) ≢ 0 → lastSent relayedTo c ≡ now
-    pub relayed : length (x .relay) ≢ 0 → lastSent relayedTo (x .destination) ≡ now
+    pub replied : length (x .reply) ≢ 0 → TimeAt relayedTo (lastSentAt c) now
+    pub relayed : length (x .relay) ≢ 0 → TimeAt relayedTo (lastSentAt (x .destination)) now
     pub cleared : IsMessage call → byteAt relayedTo (unansweredAt c) ≡ 0
 
   pub marked : length (x .connections) ≡ connectionsSize → c < connectionCount → now < timeLimit

@@ -144,7 +144,7 @@ module _
           stay = record { connections = relay-marks cs now c (length (12 ∷ drop 1 m)) (peer cs c); leases = refl };
         })
 
-    -- Each pair is told to its owner and stands in its owner's record, and nothing else is written.
+    -- Each pair is told to its owner and stands in its owner's record; else only byte 2 and the times of what was sent change.
     pub keys-to-owners : (id : ℕ) → decode m ≡ some (EstablishRequest id)
         → (hold : ℕ) → decideEstablish cs ls now c id ≡ establishedWith hold
         → KeysToOwners tables sent c hold id random o
@@ -181,7 +181,7 @@ module _
         key : (at : ℕ) → at + 16 ≤ 80 → length (part random at 16) ≡ 16
         key at l = length-part random at 16 (omega (arith, long))
 
-    -- An establish request that is not met is told its status, and changes nothing.
+    -- An establish request that is not met is told its status; of the tables it changes byte 2 and 4-8 of its record.
     pub establish-refused : (id : ℕ) → decode m ≡ some (EstablishRequest id)
         → (status : ℕ) → decideEstablish cs ls now c id ≡ refusedWith status
         → RepliedOnly sent o (encode (EstablishRefused id status)) × MarksOnly (InOwnMarks c) tables o
@@ -245,7 +245,7 @@ module _
           connections = own-marks cs now c (length (encode (LeaseGranted id cookie (now + 3600))));
         })
 
-    -- A renewed one is told with the id and the cookie that it had, and has this holder and an hour from now; nothing else changes.
+    -- A renewed one is told with the id and the cookie that it had, and has this holder and an hour from now; nothing else of the lease table changes.
     pub lease-renewed : typeOf m ≡ 2 → (row : ℕ) → decision ≡ renewed row
         → LeaseRenewed tables sent row (now + 3600) c o (encode (LeaseGranted (idOf ls row) (cookieOf ls row) (now + 3600)))
     unfolding done planLease leaseEnd stamp
@@ -270,7 +270,7 @@ module _
         let short : length (part m 2 24) ≡ 0 = rw (no-bytes m two) in
         omega (arith, ap length cookie-is)
 
-    -- Otherwise accepted 0, and nothing changes.
+    -- Otherwise accepted 0, and no row changes.
     pub lease-refused : typeOf m ≡ 2 → isAccepted decision ≡ false → RepliedOnly sent o (3 ∷ 0 ∷ []) × MarksOnly (InOwnMarks c) tables o
     unfolding done planLease encode stamp
     lease-refused t n = rw (lease-outcome t) (go decision n)
@@ -306,7 +306,7 @@ module _
           connections = own-marks cs now c (length (encode (ExtensionGranted (now + 3600))));
         })
 
-    -- Otherwise extended 0, and nothing changes.
+    -- Otherwise extended 0, and no row changes.
     pub extension-refused : (cookie : List ℕ) → decode m ≡ some (ExtensionRequest cookie) → (Extendable ls now c cookie → ⊥)
         → RepliedOnly sent o (5 ∷ 0 ∷ []) × MarksOnly (InOwnMarks c) tables o
     unfolding done planMessage planExtension encode stamp

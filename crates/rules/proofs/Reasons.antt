@@ -151,7 +151,7 @@ module _ (tables : Tables) (now c : ℕ) (m random reply relay : List ℕ) where
   lease-named d = record {
     exactly = lease-exactly d;
     first = λ h. rw (lease-exactly d .0 h .1 .1) (first-failing ls now c random cs (part m 2 24));
-    acted = acted;
+    acted = λ h. unfold plan in rw (acted h);
     told = λ h. rw (reply-byte tables sent (lease-exactly d .0 h .0) 1 (rw (acted h) (told-lease d .0)), acted h) (told-lease d .1);
   }
     where
@@ -187,7 +187,7 @@ module _ (tables : Tables) (now c : ℕ) (m random reply relay : List ℕ) where
   establish-named d = record {
     exactly = establish-exactly d;
     first = λ h. rw (establish-exactly d .0 h .1 .1) (statuses cs ls now c id);
-    acted = acted;
+    acted = λ h. unfold plan in rw (acted h);
     told = λ h. rw (reply-byte tables sent (establish-exactly d .0 h .0) 5 (rw (acted h) (told-status d .0)), acted h) (told-status d .1);
   }
     where

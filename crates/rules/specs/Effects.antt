@@ -7,11 +7,11 @@ use mathlib.Core.Bool.{Bool, true, false}
 use mathlib.Core.List.{List}
 use lib.Dec.{eqb}
 use lib.ListN.{length, replicate}
-use Rattle.octets.specs.Octets.{if_then_else_, byteAt, part, numberAt, put}
+use Rattle.octets.specs.Octets.{if_then_else_, byteAt, bigEndian, part, numberAt, put}
 use Rattle.svsc.specs.Messages.{Established, EstablishNotification, Keepalive, encode}
 use Rattle.rules.specs.Sizes.{rowCount, connectionBytes, leaseBytes}
 use Rattle.rules.specs.Searches.{endRow}
-use Rattle.rules.specs.Tables.{Tables, partnerOf, ownerOf, connectionAt, inSession, hasSession, holderCounts, lastSent, keepaliveSent, sessionIdOf, peerIdOf, peerKeyOf, live, expiry, idOf, holder, cookieOf}
+use Rattle.rules.specs.Tables.{Tables, partnerOf, ownerOf, connectionAt, inSession, hasSession, holderCounts, sessionIdOf, peerIdOf, peerKeyOf, live, expiry, idOf, holder, cookieOf}
 use Rattle.rules.specs.Leases.{LeaseDecision, holdsLease, noSpareRow, cookieInUse, noFreeId, renewed, granted}
 use Rattle.rules.specs.Sessions.{EstablishDecision, refusedWith, establishedWith}
 use Rattle.rules.specs.Calls.{Call, opening, message, closing, keepalive, timeOf, connectionOf, replyBuffer, relayBuffer, Outcome}
@@ -173,17 +173,22 @@ IsMessage (message now c m random reply relay) = Unit {0}
 IsMessage (closing now c relay) = ⊥
 IsMessage (keepalive now c reply relay) = ⊥
 
+-- the five bytes of a time stand at a place of a table, and are read as that time
+pub record TimeAt (cs : List ℕ) (at time : ℕ) : Type 0 where
+  pub bytes : part cs at 5 ≡ bigEndian 5 time
+  pub number : numberAt cs at 5 ≡ time
+
 -- Every call that is done: "4-8 the reading of the last message sent to it", of whoever is sent one; "Any done message from the connection
 -- clears byte 2."
 pub record Marked (call : Call) (o : Outcome) : Type 0 where
-  pub replied : o .answer .replyLength ≢ 0 → lastSent (o .tables .connections) (connectionOf call) ≡ timeOf call
-  pub relayed : o .answer .relayLength ≢ 0 → lastSent (o .tables .connections) (o .answer .destination) ≡ timeOf call
+  pub replied : o .answer .replyLength ≢ 0 → TimeAt (o .tables .connections) (connectionAt (connectionOf call) + 4) (timeOf call)
+  pub relayed : o .answer .relayLength ≢ 0 → TimeAt (o .tables .connections) (connectionAt (o .answer .destination) + 4) (timeOf call)
   pub cleared : IsMessage call → byteAt (o .tables .connections) (connectionAt (connectionOf call) + 2) ≡ 0
 
 -- what a stamp writes, of a message of n bytes to connection c, and what it leaves
 pub record Stamped (cs : List ℕ) (now n c : ℕ) (ds : List ℕ) : Type 0 where
   pub none : n ≡ 0 → ds ≡ cs
-  pub time-is : n ≢ 0 → lastSent ds c ≡ now
+  pub time-is : n ≢ 0 → TimeAt ds (connectionAt c + 4) now
   pub others : ChangedOnly (InLastSent c) cs ds
 
 -- what an answer to a keepalive writes, and what it leaves
@@ -224,8 +229,8 @@ pub record ClosedAsDead (call : Call) (o closed : Outcome) : Type 0 where
 pub record Asked (tables : Tables) (call : Call) (now c : ℕ) (o : Outcome) : Type 0 where
   pub sent : RepliedOnly call o (encode Keepalive)
   pub unanswered : byteAt (o .tables .connections) (connectionAt c + 2) ≡ 1
-  pub last-sent : lastSent (o .tables .connections) c ≡ now
-  pub keepalive-sent : keepaliveSent (o .tables .connections) c ≡ now
+  pub last-sent : TimeAt (o .tables .connections) (connectionAt c + 4) now
+  pub keepalive-sent : TimeAt (o .tables .connections) (connectionAt c + 9) now
   pub stay : MarksOnly (λ i. (InUnanswered c i ⊎ InKeepaliveSent c i) ⊎ InLastSent c i) tables o
 
 -- "Otherwise nothing is sent and the answer is 0": no record and no row changes

@@ -14,7 +14,7 @@ use Rattle.rules.specs.Tables.{Tables, lent, partnerOf, allowanceAt, buc
 use Rattle.rules.specs.Leases.{LeaseDecision, decideLease}
 use Rattle.rules.specs.Sessions.{EstablishDecision, rowOfId, decideEstablish}
 use Rattle.rules.specs.Calls.{Call, opening, message, closing, keepalive, timeOf, callerOf}
-use Rattle.rules.specs.Plans.{planLease, planEstablish, planCall}
+use Rattle.rules.specs.Plans.{planLease, planEstablish, heard, stamped, plan}
 use Rattle.rules.specs.Charges.{charged, cost}
 use Rattle.rules.specs.Step.{step}
 use Rattle.rules.specs.Reasons.{conditionOf, statusOf, ofLease, ofEstablish, explain}
@@ -45,7 +45,7 @@ pub record LeaseNamed (tables : Tables) (call : Call) (now c : ℕ) (m random : 
   pub exactly : (explain tables call .decided ≡ ofLease d)
       ↔ (Accepted tables call × ((typeOf m ≡ 2) × (d ≡ decideLease (tables .connections) (tables .leases) now c random (part m 2 24))))
   pub first : explain tables call .decided ≡ ofLease d → FirstFailing (tables .leases) now c random (conditionOf d)
-  pub acted : explain tables call .decided ≡ ofLease d → planCall tables call ≡ planLease tables now c d
+  pub acted : explain tables call .decided ≡ ofLease d → plan tables call ≡ stamped now c (heard call (planLease tables now c d))
   pub told : explain tables call .decided ≡ ofLease d → (conditionOf d ≡ 0) ↔ (byteAt (step tables call .reply) 1 ≡ 1)
 
 -- A session: the same of type 6, with the status, which is byte 5 of the reply.
@@ -55,7 +55,7 @@ pub record EstablishNamed (tables : Tables) (call : Call) (now c : ℕ) (m rando
       × ((typeOf m ≡ 6) × (d ≡ decideEstablish (tables .connections) (tables .leases) now c (numberAt m 1 4))))
   pub first : explain tables call .decided ≡ ofEstablish d
       → Statuses (tables .connections) (tables .leases) c (rowOfId (tables .leases) now (partnerOf c) (numberAt m 1 4)) d
-  pub acted : explain tables call .decided ≡ ofEstablish d → planCall tables call ≡ planEstablish tables c (numberAt m 1 4) random d
+  pub acted : explain tables call .decided ≡ ofEstablish d → plan tables call ≡ stamped now c (heard call (planEstablish tables c (numberAt m 1 4) random d))
   pub told : explain tables call .decided ≡ ofEstablish d → statusOf d ≡ byteAt (step tables call .reply) 5
 
 -- "a call with its draw and tray lengths": of the buffers that a call writes to, only the lengths count

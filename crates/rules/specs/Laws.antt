@@ -50,11 +50,11 @@ abbrev pub InClock : ℕ → Type 0
 InClock i = InField 16 partners 8 8 i
 
 -- "only type 1 with ok 0 hangs up"; 02, Item 3: "unanswered for 60 seconds or more, .. hang-up yes"
-abbrev pub HangsUp : List ℕ → Call → Type 0
-HangsUp cs (opening now c reply) = ⊥
-HangsUp cs (message now c m random reply relay) = decode m ≡ some (VersionAnswer 0)
-HangsUp cs (closing now c relay) = ⊥
-HangsUp cs (keepalive now c reply relay) = Dead cs now c
+abbrev pub EndsCaller : List ℕ → Call → Type 0
+EndsCaller cs (opening now c reply) = ⊥
+EndsCaller cs (message now c m random reply relay) = decode m ≡ some (VersionAnswer 0)
+EndsCaller cs (closing now c relay) = ⊥
+EndsCaller cs (keepalive now c reply relay) = Dead cs now c
 
 -- Any two live rows have different ids.
 abbrev pub DistinctIds : List ℕ → ℕ → Type 0

@@ -1,4 +1,4 @@
--- The sentences of 01's checks, as statements: what each check of a call is proved to be, in both directions.
+-- The sentences of 01's checks, and of 02, Item 3, as statements: what each check of a call is proved to be, in both directions.
 use Prim.Native.Nat.{ℕ, _-_, _≤_, _<_, max}
 use mathlib.Core.Path.{_≡_}
 use mathlib.Core.Logic.{_≢_, _⊎_, _↔_}

@@ -1,4 +1,4 @@
--- Every size, limit and term of 01 that the relay has, named once. The lengths of messages, cookies and keys are svsc's; the capacity of an
+-- Every size, limit and term of 01 and 02 that the relay has, named once. The lengths of messages, cookies and keys are svsc's; the capacity of an
 -- allowance and its refill are allowance's.
 use Prim.Native.Nat.{ℕ, _+_, _*_, _^_}
 
