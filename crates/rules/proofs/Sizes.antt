@@ -1,4 +1,4 @@
--- The named sizes are 01's numbers. Assumes nothing.
+-- The named sizes are 01's and 02's numbers. Assumes nothing.
 use Prim.Native.Nat.{_^_}
 use mathlib.Core.Path.{_≡_, refl}
 use Rattle.rules.specs.Sizes.{partners, connectionsPerPartner, rowsPerPartner, connectionCount, rowCount, connectionBytes, leaseBytes, allowanceBytes, connectionsSize, leasesSize, allowancesSize, nobody, timeLimit, randomBytes, leastBuffer, callCost, retryAfter, leaseTerm, candidateCount, candidateBytes, idLimit, timeBytes, keepaliveTimeout, answerTimeout}
