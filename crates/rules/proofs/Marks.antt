@@ -49,7 +49,7 @@ module _ (cs : List ℕ) (c : ℕ) where
 
 pub changed-ask : (cs : List ℕ) (now c : ℕ) → ChangedOnly (λ i. InUnanswered c i ⊎ InKeepaliveSent c i) cs (ask cs now c)
 unfolding ask
-changed-ask cs now c = changed-both (changed-unanswered cs c 1) (changed-keepalive-sent (setUnanswered cs c 1) c now)
+changed-ask cs now c = changed-both (changed-unanswered cs c _) (changed-keepalive-sent (setUnanswered cs c _) c _)
 
 -- ---- what stands there afterwards
 
