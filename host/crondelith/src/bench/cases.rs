@@ -41,6 +41,8 @@ const CALLER: u64 = 0;
 const HOLDER: u64 = 1;
 
 const START: u64 = 1_000_000;
+/// A connection is asked that was sent nothing for so long.
+const KEEPALIVE_SECONDS: u64 = 30;
 /// Fills any allowance.
 const REFILL_SECONDS: u64 = 4;
 /// A free id.
@@ -48,7 +50,7 @@ const FREE: u32 = 1;
 
 /// Every case; None if the engine can't be brought to where one begins.
 pub fn all() -> Option<Vec<Case>> {
-    let mut cases = vec![open_and_close()?, keepalive()?];
+    let mut cases = vec![open_and_close()?, keepalive()?, nothing_due()?, asked_and_answered()?];
     cases.extend(leases::all()?);
     cases.extend([
         establish_and_end()?,
@@ -76,6 +78,28 @@ fn keepalive() -> Option<Case> {
     prepared.open(CALLER)?;
     let keepalive = message(CALLER, Message::Keepalive, nothing())?;
     Some(Case { what: "keepalive", calls: vec![keepalive], seconds: REFILL_SECONDS, prepared, reply_start: &[] })
+}
+
+/// What the host asks about each connection once a second.
+fn nothing_due() -> Option<Case> {
+    let mut prepared = Lent::fresh(BUFFER)?;
+    prepared.open(CALLER)?;
+    let check = call(CALLER, Kind::Keepalive, nothing());
+    Some(Case { what: "keepalive check, nothing due", calls: vec![check], seconds: 0, prepared, reply_start: &[] })
+}
+
+fn asked_and_answered() -> Option<Case> {
+    let mut prepared = Lent::fresh(BUFFER)?;
+    prepared.open(CALLER)?;
+    let check = call(CALLER, Kind::Keepalive, reply(1));
+    let answer = message(CALLER, Message::Keepalive, nothing())?;
+    Some(Case {
+        what: "keepalive check that asks, and the answer",
+        calls: vec![check, answer],
+        seconds: KEEPALIVE_SECONDS,
+        prepared,
+        reply_start: &[13],
+    })
 }
 
 fn establish_and_end() -> Option<Case> {

@@ -15,6 +15,7 @@ pub enum Kind {
     Open,
     Message(Vec<u8>),
     Close,
+    Keepalive,
 }
 
 /// All that a call is lent but its message; between calls, the state of a relay.
@@ -56,6 +57,7 @@ impl Relay for Engine {
                 relay::message(tables, now, connection, bytes, &lent.random, &mut lent.reply, &mut lent.relay)
             }
             Kind::Close => relay::close(tables, now, connection, &mut lent.relay),
+            Kind::Keepalive => relay::keepalive(tables, now, connection, &mut lent.reply, &mut lent.relay),
         }
     }
 }
@@ -72,6 +74,7 @@ impl Relay for Second {
                 model::message(tables, now, connection, bytes, &lent.random, &mut lent.reply, &mut lent.relay)
             }
             Kind::Close => model::close(tables, now, connection, &mut lent.relay),
+            Kind::Keepalive => model::keepalive(tables, now, connection, &mut lent.reply, &mut lent.relay),
         };
         Answer::from(answer.numbers())
     }
