@@ -12,6 +12,7 @@ use Rattle.rules.specs.Sizes.{partners, connectionCount, rowCount, lease
 use Rattle.rules.specs.Tables.{allowanceAt, leaseAt, bucketOf, clock, records, freshConnection, freshLease, bucketBytes, fresh}
 use Rattle.rules.specs.Effects.{FreshBut}
 use Rattle.rules.specs.Refusals.{RightSizes}
+use Rattle.rules.specs.Reading.{connectionRecord}
 use Rattle.rules.proofs.Records.{byte-part}
 use Rattle.rules.proofs.Connections.{fresh-record}
 use Rattle.rules.proofs.Allowances.{part-records, fresh-bucket, fresh-clock}
@@ -22,10 +23,13 @@ whole-record r count k h =
     let z : length r * k + 0 ≡ length r * k = omega arith in
     rw (z, append-nil (records count r)) at (part-records r [] 0 (length r) (omega arith) count k h)
 
+pub fresh-whole : (now c : ℕ) → c < connectionCount → connectionRecord (fresh now .connections) c ≡ freshConnection
+unfolding fresh part
+fresh-whole now c h = whole-record freshConnection connectionCount c h
+
 -- "connections all zero but byte 1 = 255"
 pub fresh-connection : (now c : ℕ) → c < connectionCount → FreshBut 0 (fresh now .connections) c
-unfolding fresh part
-fresh-connection now c h = fresh-record _ c (whole-record freshConnection connectionCount c h)
+fresh-connection now c h = fresh-record _ c (fresh-whole now c h)
 
 -- all zero, and all zero but one byte
 pub zeros : (k i : ℕ) → byteAt (replicate k 0) i ≡ 0

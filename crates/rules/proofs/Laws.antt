@@ -20,7 +20,7 @@ use Rattle.rules.specs.Step.{step, done, start, started}
 use Rattle.rules.specs.Runs.{after, history}
 use Rattle.rules.specs.Bytes.{ChangedOnly}
 use Rattle.rules.specs.Effects.{Marked}
-use Rattle.rules.specs.Laws.{Accepted, Unchanged, WithinPartner, InAllowance, InClock, DistinctIds, SpareZero}
+use Rattle.rules.specs.Laws.{Accepted, Unchanged, WithinPartner, InAllowance, InClock, DistinctIds, SpareZero, InTime}
 use Rattle.rules.proofs.Checks.{Passed, passed}
 use Rattle.rules.proofs.Answers.{refused-leaves-all, is-done, done-passed}
 use Rattle.rules.proofs.Metered.{clock-takes-time, bucket-stored}
@@ -34,6 +34,7 @@ use Rattle.rules.proofs.Within.{asked-within, plan-within}
 use Rattle.rules.proofs.Sessions.{Relays, each-relays}
 use Rattle.rules.proofs.Ids.{run-distinct}
 use Rattle.rules.proofs.Spare.{fresh-spare, run-spare}
+use Rattle.rules.proofs.Timely.{run-in-time}
 
 -- ---- making a fresh relay
 
@@ -186,6 +187,10 @@ module _ (lent : Tables) (now : ℕ) (e : start lent now .answer .number ≡ 0) 
   -- Bytes 3, 14 and 15 of every connection record and 13-15 of every lease row are zero.
   pub spare-bytes-zero : (calls : List Call) → SpareZero (after made calls)
   spare-bytes-zero calls = run-spare calls made (rw (started-fresh lent now e) (fresh-spare now))
+
+  -- Byte 2 of every connection record is 0 or 1, and no stored time is after the clock: other values come from other tables.
+  pub times-in-order : (calls : List Call) → InTime (after made calls)
+  times-in-order calls = rw (started-fresh lent now e) (run-in-time calls now)
 
   -- Demand 3 in the relay's words, three fields of `Claim`. Refused with 9 exactly when no check from 1 to 8 applies, the call is charged,
   -- and it costs more than the history before it leaves.

@@ -25,6 +25,7 @@ pub mod Sessions
 pub mod Ids
 pub mod Spare
 pub mod Room
+pub mod Timely
 pub mod Metered
 pub mod Demand3
 pub mod SamePlans

@@ -1,5 +1,5 @@
 -- What the laws of every call and every run (proofs/Laws) say, as statements. Those of single effects are in Effects.
-use Prim.Native.Nat.{ℕ, _%_, _≤_, _<_}
+use Prim.Native.Nat.{ℕ, _+_, _%_, _≤_, _<_}
 use mathlib.Core.Path.{_≡_}
 use mathlib.Core.Logic.{_≢_, _⊎_}
 use mathlib.Core.Bool.{true, false}
@@ -7,8 +7,8 @@ use mathlib.Core.Option.{some}
 use mathlib.Core.List.{List}
 use Rattle.octets.specs.Octets.{byteAt}
 use Rattle.svsc.specs.Messages.{VersionAnswer, decode}
-use Rattle.rules.specs.Sizes.{partners, rowCount, connectionBytes, leaseBytes, nobody}
-use Rattle.rules.specs.Tables.{Tables, partnerOf, ownerOf, state, peer, live, idOf}
+use Rattle.rules.specs.Sizes.{partners, connectionCount, rowCount, connectionBytes, leaseBytes, nobody}
+use Rattle.rules.specs.Tables.{Tables, partnerOf, ownerOf, connectionAt, state, peer, lastSent, keepaliveSent, live, idOf, clock}
 use Rattle.rules.specs.Calls.{Call, opening, message, closing, keepalive, replyBuffer, relayBuffer, Outcome}
 use Rattle.rules.specs.Step.{step}
 use Rattle.rules.specs.Bytes.{InField}
@@ -69,3 +69,9 @@ IsSpare j = (j ≡ 3) ⊎ ((14 ≤ j) × (j < 16))
 pub record SpareZero (tables : Tables) : Type 0 where
   pub connections : (i : ℕ) → IsSpare (i % connectionBytes) → byteAt (tables .connections) i ≡ 0
   pub leases : (i : ℕ) → 13 ≤ i % leaseBytes → i % leaseBytes < 16 → byteAt (tables .leases) i ≡ 0
+
+-- what stands in every record: byte 2 is 0 or 1, and no stored time is after the clock
+pub record InTime (tables : Tables) : Type 0 where
+  pub unanswered : (c : ℕ) → c < connectionCount → byteAt (tables .connections) (connectionAt c + 2) ≤ 1
+  pub last-sent : (c : ℕ) → c < connectionCount → lastSent (tables .connections) c ≤ clock (tables .allowances)
+  pub keepalive-sent : (c : ℕ) → c < connectionCount → keepaliveSent (tables .connections) c ≤ clock (tables .allowances)
