@@ -15,6 +15,8 @@ pub struct Limits {
     pub number: Duration,
     /// For what is still to be written when the relay ends.
     pub last_words: Duration,
+    /// For peers to be heard after the relay itself stood still for so long, before it judges any.
+    pub standstill: Duration,
 }
 
 impl Default for Limits {
@@ -26,6 +28,7 @@ impl Default for Limits {
             frame: Duration::from_secs(30),
             number: Duration::from_millis(100),
             last_words: Duration::from_secs(2),
+            standstill: Duration::from_secs(5),
         }
     }
 }
@@ -39,8 +42,8 @@ mod tests {
     /// As `crondelith help serve` tells them.
     #[test]
     fn the_usual_limits() {
-        let Limits { patience, least_progress, version, frame, number, last_words } = Limits::default();
-        assert_eq!([patience, version, frame, last_words], [30, 10, 30, 2].map(Duration::from_secs));
+        let Limits { patience, least_progress, version, frame, number, last_words, standstill } = Limits::default();
+        assert_eq!([patience, version, frame, last_words, standstill], [30, 10, 30, 2, 5].map(Duration::from_secs));
         assert_eq!((least_progress, number), (16_384, Duration::from_millis(100)));
     }
 }

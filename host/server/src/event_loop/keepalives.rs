@@ -11,8 +11,15 @@ use crate::connection::{Connection, End};
 
 impl EventLoop {
     pub(super) fn check_peers(&mut self) {
-        if self.next_check <= self.now {
-            self.next_check = self.now + self.relay.clock().until_next();
+        if self.now < self.next_check {
+            return;
+        }
+        let stood_still = self.now.duration_since(self.next_check) >= self.limits.standstill;
+        self.next_check = self.now + self.relay.clock().until_next();
+        if stood_still {
+            // A Keepalive has perhaps just been written whose time is that of before.
+            self.next_check += self.limits.standstill;
+        } else {
             (0..self.connections.len()).for_each(|number| self.check_peer(number));
         }
     }

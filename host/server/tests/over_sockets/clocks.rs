@@ -69,12 +69,19 @@ type Meanwhile = Box<dyn FnOnce() + Send>;
 pub struct Halting {
     pub clock: Standing,
     meanwhile: Arc<Mutex<Option<Meanwhile>>>,
+    /// What happens at a reading, after it was taken.
+    later: Arc<Mutex<Option<(u64, Meanwhile)>>>,
 }
 
 impl Halting {
     /// Halts the relay at its next turn, after it was told what has come and before it looks at the time.
     pub fn halt(&self, meanwhile: impl FnOnce() + Send + 'static) {
         *self.meanwhile.lock().expect("no panic in a clock") = Some(Box::new(meanwhile));
+    }
+
+    /// Halts it at a time, after it has looked at it and before it checks its peers.
+    pub fn halt_at(&self, time: u64, meanwhile: impl FnOnce() + Send + 'static) {
+        *self.later.lock().expect("no panic in a clock") = Some((time, Box::new(meanwhile)));
     }
 }
 
@@ -91,6 +98,10 @@ impl Clock for Halting {
     }
 
     fn until_next(&self) -> Duration {
+        let mut later = self.later.lock().expect("no panic in a clock");
+        if let Some((_, meanwhile)) = later.take_if(|(time, _)| *time == self.clock.reading) {
+            meanwhile();
+        }
         self.clock.until_next()
     }
 }

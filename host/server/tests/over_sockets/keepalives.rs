@@ -5,7 +5,7 @@ use std::thread;
 use std::time::Duration;
 
 use codec::{encode, Message};
-use server::{JumpingClock, CONNECTIONS_EACH};
+use server::{JumpingClock, Limits, CONNECTIONS_EACH, PARTNERS};
 use socket2::SockRef;
 
 use crate::clocks::{Halting, Standing};
@@ -274,6 +274,39 @@ fn an_answer_that_came_while_the_relay_stood_still_is_one() {
     // It is asked again, half a minute being over, and isn't closed.
     assert_asked(&mut peer);
     assert!(peer.lease() < 1 << 26);
+}
+
+/// Stopped after it has read its clock, the relay writes a Keepalive whose time is that of before.
+#[test]
+fn who_is_asked_by_a_relay_that_stood_still_has_time_to_answer() {
+    let standstill = Duration::from_millis(500);
+    let halting = Halting::default();
+    let clock = halting.clock.clone();
+    let relay = Relay::with_limits(halting.clone(), Limits { standstill, ..Limits::default() });
+    let mut peer = peer(&relay);
+    let late = clock.clone();
+    halting.halt_at(ASKED, move || {
+        thread::sleep(2 * standstill);
+        late.advance(ANSWERED);
+    });
+    clock.advance(ASKED);
+    assert_asked(&mut peer);
+    peer.send(Message::Keepalive);
+    // It is asked again, half a minute being over, and isn't closed.
+    assert_asked(&mut peer);
+    assert!(peer.lease() < 1 << 26);
+}
+
+#[test]
+fn every_connection_of_every_partner_is_asked() {
+    let (clock, relay) = start();
+    let partners = (0..PARTNERS).flat_map(|partner| [partner; CONNECTIONS_EACH]);
+    let mut peers: Vec<_> = partners.map(|partner| relay.peer(partner)).collect();
+    (0..PARTNERS).for_each(|partner| relay.await_done(partner, 2 * CONNECTIONS_EACH as u64));
+    clock.pass(ASKED);
+    peers.iter_mut().for_each(assert_asked);
+    clock.pass(ANSWERED);
+    assert!(peers.iter_mut().all(Socket::is_closed));
 }
 
 /// It is for measuring: hours pass by it in a moment, in which nobody could have answered.
