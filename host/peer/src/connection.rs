@@ -172,3 +172,59 @@ impl Write for Timed<'_> {
         self.stream.flush()
     }
 }
+
+#[cfg(test)]
+mod tests {
+    use std::io::Read;
+    use std::net::{TcpListener, TcpStream};
+    use std::thread;
+    use std::time::{Duration, Instant};
+
+    use codec::Message;
+
+    use super::{split, Outgoing};
+    use crate::{Error, MESSAGE_SIZE};
+
+    const DATA: Message = Message::DataSend { data: &[255; MESSAGE_SIZE] };
+
+    /// What goes to a relay, and the relay's stream.
+    fn connect() -> (Outgoing, TcpStream) {
+        let listener = TcpListener::bind("127.0.0.1:0").expect("a port");
+        let peer = TcpStream::connect(listener.local_addr().expect("its address")).expect("it listens");
+        (split(peer).1, listener.accept().expect("a connection").0)
+    }
+
+    /// A heartbeat is due, and the stream ends.
+    fn beat_and_end(outgoing: &Outgoing) {
+        outgoing.writer.lock().expect("a writer").beat(Duration::ZERO);
+        outgoing.end().expect("the end");
+    }
+
+    #[test]
+    fn no_heartbeat_follows_a_message_that_failed() {
+        let (outgoing, mut relay) = connect();
+        let late = outgoing.send(&DATA, Some(Instant::now()));
+        assert!(matches!(late, Err(Error::NoAnswer)), "{late:?}");
+        beat_and_end(&outgoing);
+        assert_eq!(relay.read_to_end(&mut Vec::new()).expect("the end"), 0);
+    }
+
+    #[test]
+    fn no_heartbeat_follows_a_part_of_a_message() {
+        let (outgoing, mut relay) = connect();
+        // Nobody reads, so the buffers fill up within a message.
+        let send = || outgoing.send(&DATA, Some(Instant::now() + Duration::from_millis(50)));
+        while send().is_ok() {}
+        // The heartbeat would have room now.
+        let reading = thread::spawn(move || {
+            let mut received = Vec::new();
+            relay.read_to_end(&mut received).map(|_| received)
+        });
+        beat_and_end(&outgoing);
+        let received = reading.join().expect("the relay").expect("the end");
+        let mut frame = Vec::new();
+        frames::append(&codec::encode(&DATA).expect("a message"), &mut frame).expect("a frame");
+        let only_data = received.chunks(frame.len()).all(|part| frame.starts_with(part));
+        assert!(only_data, "a heartbeat within {} bytes", received.len());
+    }
+}

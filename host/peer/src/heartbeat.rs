@@ -38,3 +38,34 @@ fn run(writer: &Weak<Mutex<Writer>>, silence: Duration, ended: &Receiver<Infalli
         };
     }
 }
+
+#[cfg(test)]
+mod tests {
+    use std::net::{TcpListener, TcpStream};
+    use std::thread;
+    use std::time::Duration;
+
+    use codec::Message;
+
+    use super::Heartbeat;
+    use crate::connection::split;
+
+    #[test]
+    fn a_heartbeat_comes_after_the_writer_was_busy() {
+        let silence = Duration::from_millis(5);
+        let listener = TcpListener::bind("127.0.0.1:0").expect("a port");
+        let peer = TcpStream::connect(listener.local_addr().expect("its address")).expect("it listens");
+        let (mut relay, _) = listener.accept().expect("a connection");
+        relay.set_read_timeout(Some(Duration::from_secs(10))).expect("a read limit");
+        let (_, outgoing) = split(peer);
+        let writer = outgoing.writer().upgrade().expect("a writer");
+        let busy = writer.lock().expect("nobody else has it");
+        let _heartbeat = Heartbeat::start(&outgoing, silence).expect("a thread");
+        // Long enough for it to find the writer busy.
+        thread::sleep(20 * silence);
+        drop(busy);
+        let mut reader = frames::Reader::default();
+        let first = reader.next(&mut relay).expect("a frame");
+        assert_eq!(first.and_then(codec::decode), Some(Message::Keepalive));
+    }
+}

@@ -247,9 +247,12 @@ fn what_a_keepalive_check_does_has_words() {
     });
     assert_eq!(told.to_json(), expected);
     let follows = |due| line(&Explanation { due: Some(due), ..explanation(CHECK, done) }, "Follows:");
-    for (due, words) in [(Due::Nothing, "nothing, "), (Due::Close, "the connection is closed, since its peer hasn't ")]
-    {
-        assert!(follows(due).is_some_and(|follows| follows.starts_with(words)), "{due:?}");
+    let others = [
+        (Due::Nothing, "nothing, there is no need to ask the peer yet, or time left for its answer"),
+        (Due::Close, "the connection is closed, since its peer hasn't answered a Keepalive in time"),
+    ];
+    for (due, words) in others {
+        assert_eq!(follows(due).as_deref(), Some(words));
     }
     assert_eq!(line(&explanation(CHECK, refused(4)), "Follows:"), None);
 }

@@ -90,3 +90,41 @@ impl EventLoop {
         self.log.record(Event { kind, place: Place::Partner(partner) }, None, text);
     }
 }
+
+#[cfg(test)]
+mod tests {
+    use std::net::TcpStream;
+    use std::sync::{mpsc, Arc};
+    use std::time::Duration;
+
+    use mio::Poll;
+    use socket2::SockRef;
+
+    use crate::event_loop::{EventLoop, Parts};
+    use crate::relay::Relay;
+    use crate::{bind_free, Limits, Log, LogFormat, SystemClock};
+
+    /// As README and DECISIONS tell it.
+    #[test]
+    fn tcp_gives_up_a_peer_after_300_seconds() {
+        let listeners = bind_free().expect("free ports");
+        let _peer = TcpStream::connect(listeners.addresses().expect("addresses")[0]).expect("it listens");
+        let parts = Parts {
+            poll: Poll::new().expect("a poll"),
+            listeners,
+            relay: Relay::fresh(Box::new(SystemClock::new())).expect("a relay"),
+            log: Arc::new(Log::new(LogFormat::Text, |_| ())),
+            limits: Limits::default(),
+            saver: None,
+            commands: mpsc::channel().1,
+        };
+        let mut event_loop = EventLoop::new(parts).expect("a loop");
+        while event_loop.connections[0].is_none() {
+            event_loop.partners[0].port.ready.fill(true);
+            event_loop.accept();
+        }
+        let connection = event_loop.connections[0].as_ref().expect("a connection");
+        let limit = SockRef::from(&connection.stream).tcp_user_timeout();
+        assert_eq!(limit.expect("an option"), Some(Duration::from_secs(300)));
+    }
+}
