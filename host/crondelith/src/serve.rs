@@ -44,7 +44,8 @@ tells of what is taken in lumps, so a peer should read 10 KB a second or more.
 A peer that was sent nothing for 30 seconds is sent a Keepalive. It answers by a Keepalive, or any
 other message that is accepted; if none is in 60 seconds, its connection is closed, and the other
 side of its session told. So a peer that has vanished is found in a minute and a half; by TCP, in
-five minutes, if it is sent something all the while and its machine acknowledges nothing.
+five minutes, if it is sent something all the while and its machine acknowledges nothing. A relay
+that stood still for 5 seconds itself judges nobody for 5 more.
 
 With '--state' the three tables are in FILE: they are loaded at the start, saved twice a second when
 more than their clock has changed, and at the end. Leases and allowances go on; connections are
