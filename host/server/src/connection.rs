@@ -70,7 +70,8 @@ impl Progress {
 }
 
 impl Connection {
-    pub fn new(stream: TcpStream, address: SocketAddr) -> Self {
+    /// One that has until then to be opened.
+    pub fn new(stream: TcpStream, address: SocketAddr, due: Instant) -> Self {
         Self {
             stream,
             address,
@@ -82,7 +83,7 @@ impl Connection {
             hold: None,
             waits: false,
             paired: None,
-            due: None,
+            due: Some(due),
             progress: None,
         }
     }
@@ -127,7 +128,7 @@ pub enum End {
     Refused(Refusal),
     /// The peer doesn't speak the relay's version.
     OtherVersion,
-    /// No version answer, or only a part of a frame, has come in time.
+    /// It couldn't be opened in time; or no version answer, or only a part of a frame, has come.
     Silent(Phase),
     /// The peer hasn't answered a Keepalive in time. The engine has closed the connection.
     Unanswered,
@@ -172,6 +173,9 @@ impl fmt::Display for End {
             Self::Unreadable(error) => write!(to, "closed, {error}"),
             Self::Refused(refusal) => refusal.fmt(to),
             Self::OtherVersion => write!(to, "closed, the peer doesn't accept the relay's version"),
+            Self::Silent(Phase::Opening) => {
+                write!(to, "closed, its partner's allowance wasn't enough to open it in time")
+            }
             Self::Silent(Phase::Greeted) => write!(to, "closed, the peer hasn't answered the relay's version in time"),
             Self::Silent(_) => write!(to, "closed, the peer has left a frame unfinished for too long"),
             Self::Unanswered => write!(to, "closed, the peer hasn't answered a Keepalive in time"),

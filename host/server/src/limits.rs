@@ -7,6 +7,8 @@ pub struct Limits {
     /// In so long a peer has to take `least_progress` bytes of what waits for it, or all of it.
     pub patience: Duration,
     pub least_progress: usize,
+    /// For the allowance of its open, by a connection that has a number.
+    pub open: Duration,
     /// For the answer to the relay's version.
     pub version: Duration,
     /// For the rest of a frame that has begun.
@@ -24,6 +26,7 @@ impl Default for Limits {
         Self {
             patience: Duration::from_secs(30),
             least_progress: 16_384,
+            open: Duration::from_secs(60),
             version: Duration::from_secs(10),
             frame: Duration::from_secs(30),
             number: Duration::from_millis(100),
@@ -42,8 +45,10 @@ mod tests {
     /// As `crondelith help serve` tells them.
     #[test]
     fn the_usual_limits() {
-        let Limits { patience, least_progress, version, frame, number, last_words, standstill } = Limits::default();
-        assert_eq!([patience, version, frame, last_words, standstill], [30, 10, 30, 2, 5].map(Duration::from_secs));
+        let Limits { patience, least_progress, open, version, frame, number, last_words, standstill } =
+            Limits::default();
+        assert_eq!([patience, open, version, frame], [30, 60, 10, 30].map(Duration::from_secs));
+        assert_eq!([last_words, standstill], [2, 5].map(Duration::from_secs));
         assert_eq!((least_progress, number), (16_384, Duration::from_millis(100)));
     }
 }

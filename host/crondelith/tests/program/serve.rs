@@ -111,15 +111,16 @@ fn the_lines_of_a_json_log_are_json() {
 
 #[test]
 fn the_help_tells_the_limits() {
-    let Limits { patience, least_progress, version, frame, number, last_words, standstill } = Limits::default();
+    let Limits { patience, least_progress, open, version, frame, number, last_words, standstill } = Limits::default();
     let help = Running::start(&mut program(&["help", "serve"])).end().stdout;
     let help = help.split_whitespace().collect::<Vec<_>>().join(" ");
-    let times = [patience, version, frame, last_words, standstill];
-    let [patience, version, frame, last_words, standstill] = times.map(|time| time.as_secs());
+    let times = [patience, open, version, frame, last_words, standstill];
+    let [patience, open, version, frame, last_words, standstill] = times.map(|time| time.as_secs());
     for told in [
         format!("takes less than {} KiB of what waits for it in {patience} seconds", least_progress / 1_024),
         format!("doesn't answer the relay's version in {version}, or leaves a frame unfinished for {frame}."),
         format!("has {last_words} seconds to be written"),
+        format!("can't be opened in {open} for want of allowance"),
         format!("stood still for {standstill} seconds itself judges nobody for {standstill} more"),
     ] {
         assert!(help.contains(&told), "{told}: {help}");

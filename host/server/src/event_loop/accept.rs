@@ -67,7 +67,7 @@ impl EventLoop {
             self.log_partner(number / CONNECTIONS_EACH, "not accepted", format_args!("a connection failed: {error}"));
             return;
         }
-        self.connections[number] = Some(Connection::new(stream, address));
+        self.connections[number] = Some(Connection::new(stream, address, self.now + self.limits.open));
         self.log_connection(number, "connected", "connected");
         self.partner_of(number).turns.join(number);
     }

@@ -3,6 +3,7 @@
 use std::time::Duration;
 
 use codec::{encode, Message};
+use server::Limits;
 
 use crate::clocks::{Backward, Counted, Standing};
 use crate::support::{assert_stops, Relay, Socket, LIMIT};
@@ -119,6 +120,21 @@ fn an_open_that_waits_has_its_shortfall_in_the_log() {
     assert_eq!(relay.server.statistics()[0].waited, 1);
     clock.advance(1);
     assert_eq!(late.receive(), encode(&Message::ProtocolVersion { major: 1, minor: 0 }));
+}
+
+#[test]
+fn an_open_does_not_wait_for_ever() {
+    let open = Duration::from_millis(200);
+    let relay = Relay::with_limits(Standing::default(), Limits { open, ..Limits::default() });
+    let mut peer = relay.peer(0);
+    let count = (262_144 - 32 - 34) / 33;
+    (0..count).for_each(|_| peer.send(Message::Keepalive));
+    relay.await_done(0, 2 + count);
+    let mut late = relay.socket(0);
+    assert!(late.is_closed());
+    relay.await_line("closed, its partner's allowance wasn't enough to open it in time");
+    peer.send(Message::Keepalive);
+    assert!(peer.is_quiet(), "it waits, and is open");
 }
 
 #[test]
