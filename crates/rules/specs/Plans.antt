@@ -143,8 +143,7 @@ planMessage tables now c random (some SessionEndNotification) = doNothing tables
 planMessage tables now c random (some (DataReceive bytes)) = doNothing tables
 planMessage tables now c random none = doNothing tables
 
--- 02, Item 3: "unanswered for 60 seconds or more, the connection is closed as by close, hang-up yes; else, none unanswered and nothing sent
--- for 30 seconds or more, a Keepalive goes into the reply tray. Otherwise nothing is sent"
+-- "hang-up yes": the same, and the host disconnects the caller
 abbrev pub disconnecting : Plan → Plan
 disconnecting p = record {
   reply = p .reply;
@@ -155,6 +154,8 @@ disconnecting p = record {
   leases = p .leases;
 }
 
+-- 02, Item 3: "unanswered for 60 seconds or more, the connection is closed as by close, hang-up yes; else, none unanswered and nothing sent
+-- for 30 seconds or more, a Keepalive goes into the reply tray. Otherwise nothing is sent"
 unfoldable pub planKeepalive : Tables → ℕ → ℕ → Plan
 planKeepalive tables now c =
     if isDead (tables .connections) now c then disconnecting (planClose tables c)

@@ -39,8 +39,8 @@ how many units are missing; from the eleventh line of a kind and connection on t
 every 5 seconds. At most some 160 KiB wait for a connection that reads slowly: beyond that its
 senders wait too. A connection is closed that takes less than 16 KiB of what waits for it in 30
 seconds, doesn't answer the relay's version in 10, or leaves a frame unfinished for 30. One that
-can't be opened in 60 for want of allowance is closed too. The kernel
-tells of what is taken in lumps, so a peer should read 10 KB a second or more.
+can't be opened in 60 for want of allowance is closed too. The kernel tells of what is taken
+in lumps, so a peer should read 10 KB a second or more.
 
 A peer that was sent nothing for 30 seconds is sent a Keepalive. It answers by a Keepalive, or any
 other message that is accepted; if none is in 60 seconds, its connection is closed, and the other
