@@ -1,17 +1,17 @@
 // Single checks, of which a call has some: what each looks at. They only read. The numbers that refuse a call are those of crates
 // `refusals` and `message_refusal`.
 ghost use mathlib.Core.Path.{_≡_};
-ghost use mathlib.Core.Bool.{not, _&&_, _||_};
+ghost use mathlib.Core.Bool.{_||_};
 ghost use mathlib.Core.List.{List};
 ghost use Prim.Native.Nat.{ℕ, _≤_, max};
 ghost use lib.ListN.{length};
-ghost use lib.Dec.{eqb, ltb};
+ghost use lib.Dec.{ltb};
 ghost use Rattle.svsc.specs.Messages.{longestMessage};
 ghost use Rattle.rules.specs.Sizes.{allowancesSize};
-ghost use Rattle.rules.specs.Tables.{lent, sized, clock, hasSession};
+ghost use Rattle.rules.specs.Tables.{lent, sized, clock};
 ghost use Rattle.rules.specs.Calls.{message};
 ghost use Rattle.rules.specs.Charges.{cost};
-ghost use Rattle.rules.specs.Checks.{pastLimit, wrongLengths, permits};
+ghost use Rattle.rules.specs.Checks.{pastLimit, wrongLengths, permits, needsSession};
 
 // 1: whether the tables have their sizes.
 pub fn sized(connections: &[u8], leases: &[u8], allowances: &[u8]) -> bool
@@ -72,14 +72,11 @@ pub fn is_permitted(state: u8, kind: u8) -> bool
     false
 }
 
-// 8: whether the type needs a session and there is none.
-pub fn has_no_session(connections: &[u8], c: u8, kind: u8) -> bool
-    ensures { λ r. ⌜ r ≡ ((eqb kind 9 || eqb kind 11) && not (hasSession (now (connections .entry)) c)) ⌝ }
+// For 8: whether the type needs a session.
+pub fn needs_session(kind: u8) -> bool
+    ensures { λ r. ⌜ r ≡ needsSession kind ⌝ }
 {
-    if (kind == 9) | (kind == 11) {
-        return !session_records::has_session(connections, c);
-    }
-    false
+    (kind == 9) | (kind == 11)
 }
 
 // For 9: what a message costs: nothing, if it ends a session. Of a message that passed check 6, whose length is bounded, so that the sum

@@ -9,13 +9,14 @@ ghost use Rattle.dispatch.specs.Asked.{Admitted};
 use answers::Answer;
 use svsc_decoded::Decoded;
 
-// Carries out what the message asks for. A keepalive asks for nothing.
+// Carries out what the message asks for; of types 9 and 11 with the peer that the checks found. A keepalive asks for nothing.
 pub fn handle(
     connections: &mut [u8],
     leases: &mut [u8],
     allowances: &[u8],
     time: u64,
     c: u8,
+    peer: u8,
     m: &[u8],
     random: &[u8],
     reply: &mut [u8],
@@ -23,7 +24,7 @@ pub fn handle(
 ) -> Answer
     requires { ⌜ Admitted (now leases) time c (now m) (now random) (now reply) (now relay) ⌝ }
     ensures { λ r. ⌜ handled r (now (connections .exit)) (now (leases .exit)) (now (reply .exit)) (now (relay .exit))
-        ≡ applied (planMessage (lent (now (connections .entry)) (now (leases .entry)) (now (allowances .entry))) time c
+        ≡ applied (planMessage (lent (now (connections .entry)) (now (leases .entry)) (now (allowances .entry))) time c peer
         (now (random .entry))
         (decode (now (m .entry)))) (now (reply .entry)) (now (relay .entry)) ⌝ }
 {
@@ -61,8 +62,8 @@ pub fn handle(
             reply,
             relay,
         ),
-        Decoded::SessionEnd => sessions::end(connections, c, relay),
-        Decoded::DataSend => sessions::send(connections, c, m, relay),
+        Decoded::SessionEnd => sessions::end(connections, c, peer, relay),
+        Decoded::DataSend => sessions::send(m, peer, relay),
         _ => answers::sent_nothing(0),
     }
 }

@@ -1,14 +1,20 @@
-// The checks of a message in their order: the number of the first that applies, or 0. They only read, and of a buffer they get the length.
+// The checks of a message in their order, and what they find. They only read, and of a buffer they get the length.
 ghost use mathlib.Core.Path.{_≡_};
 ghost use mathlib.Core.List.{List};
 ghost use Prim.Native.Nat.{ℕ};
 ghost use lib.ListN.{length};
 ghost use Rattle.rules.specs.Tables.{lent};
 ghost use Rattle.rules.specs.Calls.{message};
-ghost use Rattle.rules.specs.Checks.{check};
-ghost use Rattle.message_refusal.specs.Own.{ownChecks};
+ghost use Rattle.message_refusal.specs.Own.{ownChecks, sessionCheck, firstEight, allNine};
 
-// Checks 4 to 8.
+// The number of the first check that applies, or 0; and the connection that check 8 found in session with the caller, or 255. A session is
+// looked up here and nowhere else in a message: whoever needs the other connection is handed this.
+pub struct Found {
+    pub number: u32,
+    pub peer: u8,
+}
+
+// Checks 4 to 7.
 fn own_refusal(
     connections: &[u8],
     c: u8,
@@ -30,14 +36,67 @@ fn own_refusal(
     if !svsc_reader::from_peer(m) {
         return 6;
     }
-    let kind = octets::byte(m, 0);
-    if !checks::is_permitted(state, kind) {
+    if !checks::is_permitted(state, octets::byte(m, 0)) {
         return 7;
     }
-    if checks::has_no_session(connections, c, kind) {
-        return 8;
-    }
     0
+}
+
+// Check 8: the one look-up, of a type that needs a session.
+fn session(connections: &[u8], c: u8, kind: u8) -> Found
+    ensures { λ r. ⌜ r ≡ sessionCheck (now (connections .entry)) c kind ⌝ }
+{
+    if !checks::needs_session(kind) {
+        return Found {
+            number: 0,
+            peer: rules::NOBODY,
+        };
+    }
+    let peer = session_records::peer(connections, c);
+    if !session_records::in_session(connections, c, peer) {
+        return Found {
+            number: 8,
+            peer: rules::NOBODY,
+        };
+    }
+    Found {
+        number: 0,
+        peer: peer,
+    }
+}
+
+// Checks 1 to 8.
+fn first_eight(
+    connections: &[u8],
+    leases: &[u8],
+    allowances: &[u8],
+    time: u64,
+    connection: u64,
+    m: &[u8],
+    random: &[u8],
+    reply_length: usize,
+    relay_length: usize,
+) -> Found
+    ensures { λ r. ⌜ ((reply relay : List ℕ) → length reply ≡ «reply_length» → length relay ≡ «relay_length»
+        → r ≡ firstEight (lent (now (connections .entry)) (now (leases .entry)) (now (allowances .entry)))
+        (message time connection (now (m .entry)) (now (random .entry)) reply relay)) ⌝ }
+{
+    let first = refusals::first_three(connections, leases, allowances, time, connection);
+    if first != 0 {
+        return Found {
+            number: first,
+            peer: rules::NOBODY,
+        };
+    }
+    let c = connection as u8;
+    let own = own_refusal(connections, c, m, random, reply_length, relay_length);
+    if own != 0 {
+        return Found {
+            number: own,
+            peer: rules::NOBODY,
+        };
+    }
+    session(connections, c, octets::byte(m, 0))
 }
 
 // All nine.
@@ -51,23 +110,35 @@ pub fn refusal(
     random: &[u8],
     reply_length: usize,
     relay_length: usize,
-) -> u32
+) -> Found
     ensures { λ r. ⌜ ((reply relay : List ℕ) → length reply ≡ «reply_length» → length relay ≡ «relay_length»
-        → r ≡ check (lent (now (connections .entry)) (now (leases .entry)) (now (allowances .entry)))
+        → r ≡ allNine (lent (now (connections .entry)) (now (leases .entry)) (now (allowances .entry)))
         (message time connection (now (m .entry)) (now (random .entry)) reply relay)) ⌝ }
 {
-    let first = refusals::first_three(connections, leases, allowances, time, connection);
-    if first != 0 {
-        return first;
+    let eight = first_eight(
+        connections,
+        leases,
+        allowances,
+        time,
+        connection,
+        m,
+        random,
+        reply_length,
+        relay_length,
+    );
+    if eight.number != 0 {
+        return eight;
     }
-    let c = connection as u8;
-    let own = own_refusal(connections, c, m, random, reply_length, relay_length);
-    if own != 0 {
-        return own;
-    }
-    let level = allowance_table::level(allowances, lease_table::partner_of(c), time);
+    let level = allowance_table::level(
+        allowances,
+        lease_table::partner_of(connection as u8),
+        time,
+    );
     if level < checks::cost(m) {
-        return 9;
+        return Found {
+            number: 9,
+            peer: eight.peer,
+        };
     }
-    0
+    eight
 }

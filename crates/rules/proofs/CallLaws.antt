@@ -69,7 +69,7 @@ module _ (tables : Tables) (now c : ℕ) (relay : List ℕ) (e : Accepted tables
 
   -- the end of the session, if there is one, and the records then
   abbrev ending : Plan
-  ending = if hasSession cs c then planEnd tables c else doNothing tables
+  ending = if hasSession cs c then planEnd tables c (peer cs c) else doNothing tables
 
   abbrev ended : List ℕ
   ended = ending .connections

@@ -11,7 +11,7 @@ use lib.ListN.{length, length-append, length-take, length-drop}
 use Rattle.octets.specs.Octets.{if_then_else_, part, numberAt}
 use Rattle.svsc.specs.Messages.{Message, VersionAnswer, LeaseRequest, LeaseRequestWithCookie, ExtensionRequest, EstablishRequest, SessionEnd, DataSend, Keepalive, ProtocolVersion, LeaseRefused, LeaseGranted, ExtensionRefused, ExtensionGranted, EstablishRefused, Established, EstablishNotification, SessionEndNotification, DataReceive, encode, lengthIs, when, readings, decode, typeOf}
 use Rattle.allowance.specs.Meter as meter
-use Rattle.rules.specs.Tables.{Tables}
+use Rattle.rules.specs.Tables.{Tables, peer}
 use Rattle.rules.specs.Calls.{Call, message, Outcome}
 use Rattle.rules.specs.Sessions.{EstablishDecision, refusedWith, establishedWith, decideEstablish}
 use Rattle.rules.specs.Plans.{Plan, doNothing, planEstablish, planMessage, planCall, plan}
@@ -89,7 +89,7 @@ module _ (tables : Tables) (now c : ℕ) (m r s reply relay : List ℕ) (long : 
   random-unused two six = by-plans (λ o. o) (unfold plan planCall in rw (go (decode m) (decode-type m)))
     where
       go : (o : Option Message) → ((x : Message) → o ≡ some x → typeOf m ≡ typeOf (encode x))
-          → planMessage tables now c r o ≡ planMessage tables now c s o
+          → planMessage tables now c (peer (tables .connections) c) r o ≡ planMessage tables now c (peer (tables .connections) c) s o
       go (some (VersionAnswer ok)) t = refl
       go (some LeaseRequest) t = absurd (two (t LeaseRequest refl))
       go (some (LeaseRequestWithCookie cookie)) t = absurd (two (t (LeaseRequestWithCookie cookie) refl))
@@ -127,7 +127,7 @@ module _ (tables : Tables) (now c : ℕ) (m r s reply relay : List ℕ) (long : 
   unfolding planCall planMessage decode readings plan-of decided id
   is-plan t random = rw t (go (lengthIs m 5))
     where
-      go : (fits : Bool) → planMessage tables now c random (when fits (EstablishRequest (numberAt m 1 4))) ≡ plan-of fits decided random
+      go : (fits : Bool) → planMessage tables now c (peer (tables .connections) c) random (when fits (EstablishRequest (numberAt m 1 4))) ≡ plan-of fits decided random
       go true = refl
       go false = refl
 

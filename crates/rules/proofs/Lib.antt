@@ -1,4 +1,4 @@
--- The laws of the rules. For readers: Sizes, Fresh, TableLaws; Refusals, Reasons; CallLaws, MessageLaws, KeepaliveLaws, Leases, Marks, Room, Disconnects; Keys, Neighbours,
+-- The laws of the rules. For readers: Sizes, Fresh, TableLaws; Refusals, Reasons; CallLaws, MessageLaws, Lookup, KeepaliveLaws, Leases, Marks, Room, Disconnects; Keys, Neighbours,
 -- Laws; Charges, Demand3. The others serve these.
 pub mod Sizes
 pub mod Searches
@@ -35,6 +35,7 @@ pub mod Refusals
 pub mod Reasons
 pub mod Laws
 pub mod MessageLaws
+pub mod Lookup
 pub mod CallLaws
 pub mod KeepaliveLaws
 pub mod Disconnects

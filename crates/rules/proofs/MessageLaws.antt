@@ -91,7 +91,7 @@ module _
     marks x = stamped now c (heard sent x)
 
     -- the outcome, where the message is x
-    outcome-of : (x : Message) → decode m ≡ some x → o ≡ done tables sent (marks (planMessage tables now c random (some x)))
+    outcome-of : (x : Message) → decode m ≡ some x → o ≡ done tables sent (marks (planMessage tables now c (peer cs c) random (some x)))
     unfolding plan planCall
     outcome-of x d = is-done tables sent e ∙ rw d
 
@@ -196,7 +196,7 @@ module _
     unfolding done planMessage planEnd encode stamp
     ended-both t =
         let ended = endSession cs c (peer cs c) in
-        let changed = marks-changed sent (planEnd tables c) in
+        let changed = marks-changed sent (planEnd tables c (peer cs c)) in
         let two = paired cs c (peer cs c) (session (rw t)) in
         let d< : peer cs c < connectionCount = omega (arith, two .of-one, ok .known) in
         rw (outcome-of SessionEnd (end-read m (from-peer tables now c m random reply relay h) t))
@@ -224,7 +224,7 @@ module _
     lease-outcome : typeOf m ≡ 2 → o ≡ done tables sent (marks (planLease tables now c decision))
     unfolding plan planCall
     lease-outcome t =
-        is-done tables sent e ∙ ap (λ (x : Plan). done tables sent (marks x)) (lease-plan tables now c m random (from-peer tables now c m random reply relay h) t)
+        is-done tables sent e ∙ ap (λ (x : Plan). done tables sent (marks x)) (lease-plan tables now c (peer cs c) m random (from-peer tables now c m random reply relay h) t)
 
     until< : now + 3600 < 256 ^ 8
     until< = omega (arith, ok .in-limit)

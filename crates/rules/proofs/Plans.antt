@@ -11,7 +11,7 @@ use borrow.Author.Tests.{eq-eqb}
 use Rattle.octets.specs.Octets.{if_then_else_, part}
 use Rattle.svsc.specs.Messages.{Message, ProtocolVersion, VersionAnswer, LeaseRequest, LeaseRequestWithCookie, LeaseRefused, LeaseGranted, ExtensionRequest, ExtensionRefused, ExtensionGranted, EstablishRequest, EstablishRefused, Established, EstablishNotification, SessionEnd, SessionEndNotification, DataSend, DataReceive, Keepalive, encode, typeOf, decode, fromPeer}
 use Rattle.rules.specs.Sizes.{randomBytes}
-use Rattle.rules.specs.Tables.{Tables, opened, state, isOpen, hasSession}
+use Rattle.rules.specs.Tables.{Tables, opened, state, isOpen, peer, hasSession}
 use Rattle.rules.specs.Leases.{LeaseDecision, holdsLease, noSpareRow, cookieInUse, noFreeId, renewed, granted, decideLease}
 use Rattle.rules.specs.Sessions.{decideEstablish}
 use Rattle.rules.specs.Keepalives.{isDead, isDue, ask}
@@ -35,8 +35,8 @@ pub record Each (P : Plan → Type 0) (tables : Tables) (now c received kind : �
   pub extension : (cookie : List ℕ) → P (planExtension tables now c cookie)
   pub establish-plan : (id : ℕ) (random : List ℕ) → length random ≡ randomBytes → isOpen (tables .connections) c ≡ true
       → P (planEstablish tables c id random (decideEstablish (tables .connections) (tables .leases) now c id))
-  pub end-plan : hasSession (tables .connections) c ≡ true → P (planEnd tables c)
-  pub data-plan : hasSession (tables .connections) c ≡ true → (bytes : List ℕ) → suc (length bytes) ≡ received → P (planData tables c bytes)
+  pub end-plan : hasSession (tables .connections) c ≡ true → P (planEnd tables c (peer (tables .connections) c))
+  pub data-plan : hasSession (tables .connections) c ≡ true → (bytes : List ℕ) → suc (length bytes) ≡ received → P (planData tables (peer (tables .connections) c) bytes)
   pub no-plan : P (doNothing tables)
   pub close-plan : P (planClose tables c)
   pub dead-plan : kind ≡ 15 → P (disconnecting (planClose tables c))
@@ -55,7 +55,7 @@ module _
         → hasSession (tables .connections) c ≡ true)
         → ((bytes : List ℕ) → o ≡ some (DataSend bytes) → suc (length bytes) ≡ n)
         → ((x : Message) → o ≡ some x → kind ≡ typeOf (encode x))
-        → P (planMessage tables now c random o)
+        → P (planMessage tables now c (peer (tables .connections) c) random o)
     unfolding planMessage encode
     of-message (some (VersionAnswer n)) ok h l t = each .version-answer (t (VersionAnswer n) refl) n
     of-message (some LeaseRequest) ok h l t = each .lease random []
@@ -101,11 +101,11 @@ every-plan P tables (keepalive now c reply relay) h each =
     (λ t. by-test P (isDue (tables .connections) now c) (λ u. each .ask-plan) (λ u. each .no-plan))
 
 -- A message of type 2 asks for a lease, with the cookie behind its first two bytes: no bytes, if it has none.
-pub lease-plan : (tables : Tables) (now c : ℕ) (m random : List ℕ) → fromPeer m ≡ true → typeOf m ≡ 2
-    → planMessage tables now c random (decode m)
+pub lease-plan : (tables : Tables) (now c d : ℕ) (m random : List ℕ) → fromPeer m ≡ true → typeOf m ≡ 2
+    → planMessage tables now c d random (decode m)
     ≡ planLease tables now c (decideLease (tables .connections) (tables .leases) now c random (part m 2 24))
 unfolding planMessage
-lease-plan tables now c m random h t = ⊎-elim (λ d. rw (no-cookie m d) (rw d)) (λ d. rw d) (lease-read m h t)
+lease-plan tables now c d m random h t = ⊎-elim (λ e. rw (no-cookie m e) (rw e)) (λ e. rw e) (lease-read m h t)
 
 -- a lease: all that fail have one plan
 module _ (P : Plan → Type 0) (tables : Tables) (now c : ℕ) where

@@ -134,7 +134,7 @@ module _ (tables : Tables) (now c : ℕ) (m random reply relay : List ℕ) where
 
   plan-lease : Accepted tables sent → typeOf m ≡ 2 → planCall tables sent ≡ planLease tables now c lease-decision
   unfolding planCall
-  plan-lease e t = lease-plan tables now c m random (from-peer tables now c m random reply relay (done-passed tables sent e)) t
+  plan-lease e t = lease-plan tables now c _ m random (from-peer tables now c m random reply relay (done-passed tables sent e)) t
 
   -- byte 1 of the reply, by what was decided
   told-lease : (d : LeaseDecision) → (1 < length (planLease tables now c d .reply))

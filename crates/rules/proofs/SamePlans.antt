@@ -11,7 +11,7 @@ use Rattle.octets.specs.Octets.{if_then_else_}
 use Rattle.svsc.specs.Messages.{Message, ProtocolVersion, VersionAnswer, LeaseRequest, LeaseRequestWithCookie, LeaseRefused, LeaseGranted, ExtensionRequest, ExtensionRefused, ExtensionGranted, EstablishRequest, EstablishRefused, Established, EstablishNotification, SessionEnd, SessionEndNotification, DataSend, DataReceive, Keepalive, decode}
 use Rattle.rules.specs.Sizes.{rowsPerPartner}
 use Rattle.rules.specs.Searches.{firstRow, endRow}
-use Rattle.rules.specs.Tables.{Tables, partnerOf, ownerOf, connectionAt, keysAt, bucketOf, clock, sized, hasSession}
+use Rattle.rules.specs.Tables.{Tables, partnerOf, ownerOf, connectionAt, keysAt, bucketOf, clock, sized, peer, hasSession}
 use Rattle.rules.specs.Leases.{LeaseDecision, holdsLease, noSpareRow, cookieInUse, noFreeId, renewed, granted, firstFree, idTaken, idElsewhere, decideLease, leaseEnd, grant, renew, rowToExtend, release}
 use Rattle.rules.specs.Sessions.{EstablishDecision, refusedWith, establishedWith, decideEstablish, clear, await, join, leave, endSession, establish}
 use Rattle.rules.specs.Calls.{Call, opening, message, closing, keepalive, timeOf, connectionOf, callerOf}
@@ -112,20 +112,20 @@ module _
     establish-alike id random =
         rw (← establish-same Q P heads cs ds ls ms s t now c id mine) (decided-establish id random (decideEstablish cs ls now c id))
 
-    end-alike : Agree (planEnd a c) (planEnd b c)
+    end-alike : Agree (planEnd a c (peer cs c)) (planEnd b c (peer ds c))
     unfolding planEnd endSession leave join
     end-alike =
         rw (← peer-same Q P heads cs ds s c mine)
         (tables-alike (same-put (same-put (same-put (same-put s _ _) _ _) _ _) _ _) t)
 
-    data-alike : (bytes : List ℕ) → Agree (planData a c bytes) (planData b c bytes)
+    data-alike : (bytes : List ℕ) → Agree (planData a (peer cs c) bytes) (planData b (peer ds c) bytes)
     unfolding planData
     data-alike bytes = rw (← peer-same Q P heads cs ds s c mine) (tables-alike s t)
 
     close-alike : Agree (planClose a c) (planClose b c)
     unfolding planClose release clear
     close-alike =
-        let ended : Agree (if hasSession cs c then planEnd a c else doNothing a) (if hasSession ds c then planEnd b c else doNothing b) =
+        let ended : Agree (if hasSession cs c then planEnd a c (peer cs c) else doNothing a) (if hasSession ds c then planEnd b c (peer ds c) else doNothing b) =
         by-both Agree (hasSession cs c) _ (has-session-same Q P heads cs ds s c mine) (λ e. end-alike) (λ e. nothing-alike) in
         record {
           reply = refl;
@@ -157,7 +157,7 @@ module _
         (λ u. nothing-alike))
 
     message-alike : (random : List ℕ) → firstFree ls now random ≡ firstFree ms now random → (o : Option Message)
-        → Agree (planMessage a now c random o) (planMessage b now c random o)
+        → Agree (planMessage a now c (peer cs c) random o) (planMessage b now c (peer ds c) random o)
     unfolding planMessage
     message-alike random e (some (VersionAnswer ok)) = answer-alike ok
     message-alike random e (some LeaseRequest) = lease-alike random [] e

@@ -12,7 +12,7 @@ use Rattle.octets.proofs.Parts.{length-part}
 use Rattle.svsc.specs.Messages.{keyBytes, encode}
 use Rattle.rules.specs.Sizes.{connectionCount, connectionsSize, randomBytes, nobody}
 use Rattle.rules.specs.Searches.{endRow}
-use Rattle.rules.specs.Tables.{Tables, partnerOf, opened, isOpen, inSession, hasSession}
+use Rattle.rules.specs.Tables.{Tables, partnerOf, opened, isOpen, peer, inSession, hasSession}
 use Rattle.rules.specs.Leases.{LeaseDecision, decideLease, rowToExtend}
 use Rattle.rules.specs.Sessions.{EstablishDecision, refusedWith, establishedWith, decideEstablish, randomSessionId, callersPeerId, callersKey, holdersPeerId, holdersKey, join, establish, endSession, clear}
 use Rattle.rules.specs.Plans.{Plan, doNothing, planOpen, planVersionAnswer, planLease, planExtension, planEstablish, planEnd, planData, planClose}
@@ -144,11 +144,11 @@ module _ (tables : Tables) (now c : ℕ) (size : length (tables .connections) �
         inr (establish-pairs cs c h random size c< long (is-established cs ls now c id h e) o);
   }
 
-  end-relays : hasSession cs c ≡ true → Relays (planEnd tables c)
+  end-relays : hasSession cs c ≡ true → Relays (planEnd tables c (peer cs c))
   unfolding planEnd encode hasSession
   end-relays h = record { empty = λ z. absurd (omega arith); to-paired = λ n. inl h }
 
-  data-relays : hasSession cs c ≡ true → (bytes : List ℕ) → Relays (planData tables c bytes)
+  data-relays : hasSession cs c ≡ true → (bytes : List ℕ) → Relays (planData tables (peer cs c) bytes)
   unfolding planData encode hasSession
   data-relays h bytes = record { empty = λ z. absurd (omega arith); to-paired = λ n. inl h }
 
@@ -160,7 +160,7 @@ module _ (tables : Tables) (now c : ℕ) (size : length (tables .connections) �
   close-relays : Relays (planClose tables c)
   unfolding planClose planEnd encode hasSession
   close-relays =
-      let ended : Ends (if hasSession cs c then planEnd tables c else doNothing tables) =
+      let ended : Ends (if hasSession cs c then planEnd tables c (peer cs c) else doNothing tables) =
       by-test Ends (hasSession cs c)
       (λ h. record { empty = λ z. absurd (omega arith); before = λ n. h })
       (λ h. record { empty = λ z. refl; before = λ n. absurd (n refl) }) in

@@ -205,7 +205,7 @@ module _ (tables : Tables) (now c : ℕ) (zs : SpareZero tables) where
     leases = zs .leases;
   }
 
-  end-plan-zero : Zero (planEnd tables c)
+  end-plan-zero : Zero (planEnd tables c (peer cs c))
   unfolding planEnd
   end-plan-zero = record { connections = λ i z. end-zero i z cs c (peer cs c) (zs .connections i z); leases = zs .leases }
 

@@ -189,7 +189,7 @@ module _ (tables : Tables) (now c : ℕ) (c< : c < connectionCount) (now< : now 
       (sessions-apart c h)
       t
 
-  end-timely : Kept (planEnd tables c)
+  end-timely : Kept (planEnd tables c (peer cs c))
   unfolding planEnd
   end-timely = beside (changed-end cs c (peer cs c)) (sessions-apart c (peer cs c)) t
 

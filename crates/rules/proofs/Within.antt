@@ -105,7 +105,7 @@ module _ (tables : Tables) (now c : ℕ) where
         to-own = λ n. of-one;
       }
 
-  end-within : hasSession cs c ≡ true → Within (planEnd tables c)
+  end-within : hasSession cs c ≡ true → Within (planEnd tables c (peer cs c))
   unfolding planEnd hasSession
   end-within h =
       let of-one = paired cs c (peer cs c) h .of-one in
@@ -116,7 +116,7 @@ module _ (tables : Tables) (now c : ℕ) where
         to-own = λ n. sym of-one;
       }
 
-  data-within : hasSession cs c ≡ true → (bytes : List ℕ) → Within (planData tables c bytes)
+  data-within : hasSession cs c ≡ true → (bytes : List ℕ) → Within (planData tables (peer cs c) bytes)
   unfolding planData hasSession
   data-within h bytes =
       let of-one = sym (paired cs c (peer cs c) h .of-one) in
@@ -125,7 +125,7 @@ module _ (tables : Tables) (now c : ℕ) where
   close-within : Within (planClose tables c)
   unfolding planClose release
   close-within =
-      let ended = (if hasSession cs c then planEnd tables c else doNothing tables) in
+      let ended = (if hasSession cs c then planEnd tables c (peer cs c) else doNothing tables) in
       let w : Within ended = by-test Within (hasSession cs c) end-within (λ h. nothing-within) in
       record {
         connections = kept-trans (w .connections) (kept-clear {Other = NotOf} (ended .connections) c (λ n. n refl));

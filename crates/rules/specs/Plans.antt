@@ -94,21 +94,19 @@ planEstablish tables c id random (establishedWith h) = record {
 }
 
 -- Type 9: "both records lose the session ..; relay is type 10 to the other"
-unfoldable pub planEnd : Tables → ℕ → Plan
-planEnd tables c =
-    let d = peer (tables .connections) c in
-    relayOnly (endSession (tables .connections) c d) (tables .leases) (encode SessionEndNotification) d
+unfoldable pub planEnd : Tables → ℕ → ℕ → Plan
+planEnd tables c d = relayOnly (endSession (tables .connections) c d) (tables .leases) (encode SessionEndNotification) d
 
--- Type 11: "relay is 12 and the same data, to the other"
+-- Type 11: "relay is 12 and the same data, to the other". 02, Item 4: "a send looks its session up once, before copying": the other is a
+-- number here, and no record is read.
 unfoldable pub planData : Tables → ℕ → List ℕ → Plan
-planData tables c bytes =
-    relayOnly (tables .connections) (tables .leases) (encode (DataReceive bytes)) (peer (tables .connections) c)
+planData tables d bytes = relayOnly (tables .connections) (tables .leases) (encode (DataReceive bytes)) d
 
 -- Close: "ends a session as type 9 does, sets byte 12 to 255 in the partner's rows that name this connection, puts its record back to
 -- fresh"
 unfoldable pub planClose : Tables → ℕ → Plan
 planClose tables c =
-    let ended = (if hasSession (tables .connections) c then planEnd tables c else doNothing tables) in
+    let ended = (if hasSession (tables .connections) c then planEnd tables c (peer (tables .connections) c) else doNothing tables) in
     record {
       reply = [];
       relay = ended .relay;
@@ -118,30 +116,31 @@ planClose tables c =
       leases = release (tables .leases) c;
     }
 
--- A message. 02, Item 2: "a request's cookie is considered"; 01: "Type 13: nothing sent". What peers do not send, check 6 refuses.
-unfoldable pub planMessage : Tables → ℕ → ℕ → List ℕ → Option Message → Plan
-planMessage tables now c random (some (VersionAnswer ok)) = planVersionAnswer tables c ok
-planMessage tables now c random (some LeaseRequest) =
+-- A message of connection c, which names d as its peer. 02, Item 2: "a request's cookie is considered"; 01: "Type 13: nothing sent". What
+-- peers do not send, check 6 refuses.
+unfoldable pub planMessage : Tables → ℕ → ℕ → ℕ → List ℕ → Option Message → Plan
+planMessage tables now c d random (some (VersionAnswer ok)) = planVersionAnswer tables c ok
+planMessage tables now c d random (some LeaseRequest) =
     planLease tables now c (decideLease (tables .connections) (tables .leases) now c random [])
-planMessage tables now c random (some (LeaseRequestWithCookie cookie)) =
+planMessage tables now c d random (some (LeaseRequestWithCookie cookie)) =
     planLease tables now c (decideLease (tables .connections) (tables .leases) now c random cookie)
-planMessage tables now c random (some (ExtensionRequest cookie)) = planExtension tables now c cookie
-planMessage tables now c random (some (EstablishRequest id)) =
+planMessage tables now c d random (some (ExtensionRequest cookie)) = planExtension tables now c cookie
+planMessage tables now c d random (some (EstablishRequest id)) =
     planEstablish tables c id random (decideEstablish (tables .connections) (tables .leases) now c id)
-planMessage tables now c random (some SessionEnd) = planEnd tables c
-planMessage tables now c random (some (DataSend bytes)) = planData tables c bytes
-planMessage tables now c random (some Keepalive) = doNothing tables
-planMessage tables now c random (some (ProtocolVersion major minor)) = doNothing tables
-planMessage tables now c random (some LeaseRefused) = doNothing tables
-planMessage tables now c random (some (LeaseGranted id cookie expiration)) = doNothing tables
-planMessage tables now c random (some ExtensionRefused) = doNothing tables
-planMessage tables now c random (some (ExtensionGranted expiration)) = doNothing tables
-planMessage tables now c random (some (EstablishRefused id status)) = doNothing tables
-planMessage tables now c random (some (Established id session peerId key)) = doNothing tables
-planMessage tables now c random (some (EstablishNotification session peerId key)) = doNothing tables
-planMessage tables now c random (some SessionEndNotification) = doNothing tables
-planMessage tables now c random (some (DataReceive bytes)) = doNothing tables
-planMessage tables now c random none = doNothing tables
+planMessage tables now c d random (some SessionEnd) = planEnd tables c d
+planMessage tables now c d random (some (DataSend bytes)) = planData tables d bytes
+planMessage tables now c d random (some Keepalive) = doNothing tables
+planMessage tables now c d random (some (ProtocolVersion major minor)) = doNothing tables
+planMessage tables now c d random (some LeaseRefused) = doNothing tables
+planMessage tables now c d random (some (LeaseGranted id cookie expiration)) = doNothing tables
+planMessage tables now c d random (some ExtensionRefused) = doNothing tables
+planMessage tables now c d random (some (ExtensionGranted expiration)) = doNothing tables
+planMessage tables now c d random (some (EstablishRefused id status)) = doNothing tables
+planMessage tables now c d random (some (Established id session peerId key)) = doNothing tables
+planMessage tables now c d random (some (EstablishNotification session peerId key)) = doNothing tables
+planMessage tables now c d random (some SessionEndNotification) = doNothing tables
+planMessage tables now c d random (some (DataReceive bytes)) = doNothing tables
+planMessage tables now c d random none = doNothing tables
 
 -- "hang-up yes": the same, and the host disconnects the caller
 abbrev pub disconnecting : Plan → Plan
@@ -166,7 +165,7 @@ planKeepalive tables now c =
 -- what each call asks for
 unfoldable pub planCall : Tables → Call → Plan
 planCall tables (opening now c reply) = planOpen tables c
-planCall tables (message now c m random reply relay) = planMessage tables now c random (decode m)
+planCall tables (message now c m random reply relay) = planMessage tables now c (peer (tables .connections) c) random (decode m)
 planCall tables (closing now c relay) = planClose tables c
 planCall tables (keepalive now c reply relay) = planKeepalive tables now c
 

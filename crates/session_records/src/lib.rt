@@ -19,7 +19,7 @@ pub fn peer(connections: &[u8], c: u8) -> u8
 }
 
 // Whether two connections are in session: of one partner, not the same, both open, each naming the other.
-fn in_session(connections: &[u8], c: u8, d: u8) -> bool
+pub fn in_session(connections: &[u8], c: u8, d: u8) -> bool
     ensures { λ r. ⌜ r ≡ inSession (now (connections .entry)) c d ⌝ }
 {
     (c as usize / rules::CONNECTIONS_PER_PARTNER == d as usize / rules::CONNECTIONS_PER_PARTNER)

@@ -90,7 +90,23 @@ pub extern "C" fn svsc_write_data_send(buffer: &mut [u8], bytes: &[u8]) -> Writt
 pub extern "C" fn svsc_write_data_receive(buffer: &mut [u8], bytes: &[u8]) -> Written
     ensures { λ r. ⌜ written r (now (buffer .exit)) ≡ write (DataReceive (now (bytes .entry))) (now (buffer .entry)) ⌝ }
 {
-    put_part(buffer, short(bytes, svsc::LONGEST), 12, bytes)
+    if !short(bytes, svsc::LONGEST) {
+        return Written {
+            number: 6,
+            length: 0,
+        };
+    }
+    let length = data_copy::copy(buffer, bytes);
+    if length == 0 {
+        return Written {
+            number: 5,
+            length: 0,
+        };
+    }
+    Written {
+        number: 0,
+        length: length,
+    }
 }
 
 #[no_mangle]
