@@ -4,7 +4,7 @@ use mathlib.Core.Path.{_≡_, ap}
 use mathlib.Core.Bool.{true, false}
 use mathlib.Core.Logic.{⊎-elim}
 use mathlib.Core.List.{List}
-use Rattle.rules.specs.Tables.{lent, hasSession}
+use Rattle.rules.specs.Tables.{lent, peer, hasSession}
 use Rattle.octets.specs.Octets.{if_then_else_, put}
 use Rattle.octets.proofs.Tests.{by-test}
 use Rattle.rules.specs.Sessions.{clear}
@@ -17,7 +17,7 @@ module _ (cs ls al reply relay cs₁ cs₂ ls′ relay′ : List ℕ) (c : ℕ) 
   abbrev Closed : Type 0
   Closed = handled r cs₂ ls′ reply relay′ ≡ applied (planClose (lent cs ls al) c) reply relay
 
-  with-session : hasSession cs c ≡ true → handled r cs₁ ls reply relay′ ≡ applied (planEnd (lent cs ls al) c) reply relay → Closed
+  with-session : hasSession cs c ≡ true → handled r cs₁ ls reply relay′ ≡ applied (planEnd (lent cs ls al) c (peer cs c)) reply relay → Closed
   unfolding planClose planEnd applied put
   with-session h e =
       rw (h, k, l, ap (λ (x : Handled). x .answer) e, ap (λ (x : Handled). x .connections) e, ap (λ (x : Handled). x .relay) e)
@@ -27,5 +27,5 @@ module _ (cs ls al reply relay cs₁ cs₂ ls′ relay′ : List ℕ) (c : ℕ) 
   without-session h e =
       rw (h, k, l, ap (λ (x : Handled). x .answer) e, ap (λ (x : Handled). x .connections) e, ap (λ (x : Handled). x .relay) e)
 
-  pub closed : handled r cs₁ ls reply relay′ ≡ applied (if hasSession cs c then planEnd (lent cs ls al) c else doNothing (lent cs ls al)) reply relay → Closed
+  pub closed : handled r cs₁ ls reply relay′ ≡ applied (if hasSession cs c then planEnd (lent cs ls al) c (peer cs c) else doNothing (lent cs ls al)) reply relay → Closed
   closed e = ⊎-elim (λ h. with-session h (rw h at e)) (λ h. without-session h (rw h at e)) (by-test (hasSession cs c))

@@ -58,7 +58,7 @@ pub extern "C" fn crondelith_explain_message(
         → r ≡ coded (explain (lent (now (connections .entry)) (now (leases .entry)) (now (allowances .entry)))
         (message time connection (now (m .entry)) (now (random .entry)) reply relay))) ⌝ }
 {
-    let check = message_refusal::refusal(
+    let found = message_refusal::refusal(
         connections,
         leases,
         allowances,
@@ -69,8 +69,8 @@ pub extern "C" fn crondelith_explain_message(
         reply_length as usize,
         relay_length as usize,
     );
-    if reasons::is_stopped(check) {
-        return reasons::without_headroom(check, reasons::nothing_named());
+    if reasons::is_stopped(found.number) {
+        return reasons::without_headroom(found.number, reasons::nothing_named());
     }
     judged(
         connections,
@@ -80,6 +80,6 @@ pub extern "C" fn crondelith_explain_message(
         connection as u8,
         m,
         random,
-        check,
+        found.number,
     )
 }

@@ -129,11 +129,7 @@ pub fn refusal(
     if eight.number != 0 {
         return eight;
     }
-    let level = allowance_table::level(
-        allowances,
-        lease_table::partner_of(connection as u8),
-        time,
-    );
+    let level = allowance_table::level(allowances, lease_table::partner_of(connection as u8), time);
     if level < checks::cost(m) {
         return Found {
             number: 9,

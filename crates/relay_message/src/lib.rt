@@ -23,7 +23,7 @@ pub extern "C" fn crondelith_message(
         ≡ shown (step (lent (now (connections .entry)) (now (leases .entry)) (now (allowances .entry)))
         (message time connection (now (m .entry)) (now (random .entry)) (now (reply .entry)) (now (relay .entry)))) ⌝ }
 {
-    let refusal = message_refusal::refusal(
+    let found = message_refusal::refusal(
         connections,
         leases,
         allowances,
@@ -34,8 +34,8 @@ pub extern "C" fn crondelith_message(
         reply.len(),
         relay.len(),
     );
-    if refusal != 0 {
-        return answers::sent_nothing(refusal);
+    if found.number != 0 {
+        return answers::sent_nothing(found.number);
     }
     let c = connection as u8;
     let answer = dispatch::handle(
@@ -44,6 +44,7 @@ pub extern "C" fn crondelith_message(
         allowances,
         time,
         c,
+        found.peer,
         m,
         random,
         reply,

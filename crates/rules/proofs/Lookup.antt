@@ -53,10 +53,10 @@ module _ (tables : Tables) (now c : ℕ) (m random reply relay : List ℕ) where
     (λ q.
         ⊎-elim
         (λ e.
-            let h = eqb-true (precheck tables sent) 0 (both-left _ (needsSession (typeOf m)) e) in
-            let t = both-right (eqb (precheck tables sent) 0) (needsSession (typeOf m)) e in
-            let named : peer cs c ≡ d = sym (looked-up h t) ∙ q .0 in
-            (h, t, rw named at (has-session tables now c m random reply relay h t)))
+        let h = eqb-true (precheck tables sent) 0 (both-left _ (needsSession (typeOf m)) e) in
+        let t = both-right (eqb (precheck tables sent) 0) (needsSession (typeOf m)) e in
+        let named : peer cs c ≡ d = sym (looked-up h t) ∙ q .0 in
+        (h, t, rw named at (has-session tables now c m random reply relay h t)))
         (λ e. absurd (q .1 (sym (q .0) ∙ not-looked-up e)))
         (by-test (eqb (precheck tables sent) 0 && needsSession (typeOf m)))),
     (λ q.

@@ -1,6 +1,4 @@
 -- `handle`: in each arm, the plan of its message.
-use native.Mathlib.Omega.{arith}
-use Rattle.octets.proofs.Tests.{bytes-known}
 use Rattle.rules.specs.Tables.{lent}
 use Rattle.rules.specs.Plans.{planMessage}
 use Rattle.answers.proofs.Ways.{nothing-done}
@@ -63,9 +61,8 @@ enum-told-5 c = search needs
 
 send-requires : tie.Need-send-requires
 send-requires c κs =
-    let s = c .before .before .before .before .before .before .before .before .before .before .before .before in
-    sendable (s .args .m .now) (s .args .relay .now) _ (bytes-known (s .args .m .now) (λ i l. omega (arith, c .before .before .before .before .before .before .before .before .shared-slice-known2 .given i))) (c .before .before .before .before .read .ensures) (c .before .before .enum-told5 .given .1)
-    (s .pre .message-room)
+    let s = c .before .before .before .before .before .before .before .before .before .before .before in
+    sendable (s .args .m .now) (s .args .relay .now) _ (c .before .before .before .read .ensures) (c .before .enum-told5 .given .1) (s .pre .message-room)
 
 sent-nothing-requires : tie.Need-sent-nothing-requires
 sent-nothing-requires c κs = search needs
@@ -77,7 +74,7 @@ returns : tie.Need-returns
 unfolding planMessage
 returns c =
     let a = c .before .before .before .before .before .before .before .before .before .before .before .before .before .before .before .args in
-    asked (lent (a .connections .now) (a .leases .now) (a .allowances .now)) (a .time) (a .c) (a .random .now) (a .m .now) (a .reply .now) (a .relay .now) (c .before .before .before .before .before .before .before .read .result) (c .before .before .before .before .before .before .before .read .ensures) _ _ (c .before .before .before .before .before .d .given .1)
+    asked (lent (a .connections .now) (a .leases .now) (a .allowances .now)) (a .time) (a .c) (a .peer) (a .random .now) (a .m .now) (a .reply .now) (a .relay .now) (c .before .before .before .before .before .before .before .read .result) (c .before .before .before .before .before .before .before .read .ensures) _ _ (c .before .before .before .before .before .d .given .1)
     (c .before .before .answer-version .ensures (a .leases .now) (a .allowances .now) (a .reply .now) (a .relay .now))
 
 same-length-2 : tie.Need-same-length-2
@@ -93,7 +90,7 @@ returns-2 : tie.Need-returns-2
 unfolding planMessage
 returns-2 c =
     let a = c .before .before .before .before .before .before .before .before .before .before .before .before .before .before .before .before .before .before .args in
-    asked (lent (a .connections .now) (a .leases .now) (a .allowances .now)) (a .time) (a .c) (a .random .now) (a .m .now) (a .reply .now) (a .relay .now) (c .before .before .before .before .before .before .before .before .before .before .read .result) (c .before .before .before .before .before .before .before .before .before .before .read .ensures) _ _ (c .before .before .before .before .before .before .before .before .enum-told .given .1)
+    asked (lent (a .connections .now) (a .leases .now) (a .allowances .now)) (a .time) (a .c) (a .peer) (a .random .now) (a .m .now) (a .reply .now) (a .relay .now) (c .before .before .before .before .before .before .before .before .before .before .read .result) (c .before .before .before .before .before .before .before .before .before .before .read .ensures) _ _ (c .before .before .before .before .before .before .before .before .enum-told .given .1)
     (without-cookie _ _ _ _ _ (a .m .now) _ _ _ _ (c .before .before .before .before .before .before .before .before .before .before .read .ensures) _ (c .before .before .before .before .before .before .before .before .enum-told .given .1) (c .before .before .before .before .lease .ensures (a .relay .now)))
 
 same-length-5 : tie.Need-same-length-5
@@ -109,7 +106,7 @@ returns-3 : tie.Need-returns-3
 unfolding planMessage
 returns-3 c =
     let a = c .before .before .before .before .before .before .before .before .before .before .before .before .before .before .before .before .before .before .args in
-    asked (lent (a .connections .now) (a .leases .now) (a .allowances .now)) (a .time) (a .c) (a .random .now) (a .m .now) (a .reply .now) (a .relay .now) (c .before .before .before .before .before .before .before .before .before .before .read .result) (c .before .before .before .before .before .before .before .before .before .before .read .ensures) _ _ (c .before .before .before .before .before .before .before .before .enum-told2 .given .1)
+    asked (lent (a .connections .now) (a .leases .now) (a .allowances .now)) (a .time) (a .c) (a .peer) (a .random .now) (a .m .now) (a .reply .now) (a .relay .now) (c .before .before .before .before .before .before .before .before .before .before .read .result) (c .before .before .before .before .before .before .before .before .before .before .read .ensures) _ _ (c .before .before .before .before .before .before .before .before .enum-told2 .given .1)
     (c .before .before .before .before .lease2 .ensures (a .relay .now))
 
 same-length-8 : tie.Need-same-length-8
@@ -122,7 +119,7 @@ returns-4 : tie.Need-returns-4
 unfolding planMessage
 returns-4 c =
     let a = c .before .before .before .before .before .before .before .before .before .before .before .before .before .before .before .before .before .args in
-    asked (lent (a .connections .now) (a .leases .now) (a .allowances .now)) (a .time) (a .c) (a .random .now) (a .m .now) (a .reply .now) (a .relay .now) (c .before .before .before .before .before .before .before .before .before .read .result) (c .before .before .before .before .before .before .before .before .before .read .ensures) _ _ (c .before .before .before .before .before .before .before .enum-told3 .given .1)
+    asked (lent (a .connections .now) (a .leases .now) (a .allowances .now)) (a .time) (a .c) (a .peer) (a .random .now) (a .m .now) (a .reply .now) (a .relay .now) (c .before .before .before .before .before .before .before .before .before .read .result) (c .before .before .before .before .before .before .before .before .before .read .ensures) _ _ (c .before .before .before .before .before .before .before .enum-told3 .given .1)
     (c .before .before .before .before .extend .ensures (a .connections .now) (a .relay .now))
 
 same-length-10 : tie.Need-same-length-10
@@ -141,7 +138,7 @@ returns-5 : tie.Need-returns-5
 unfolding planMessage
 returns-5 c =
     let a = c .before .before .before .before .before .before .before .before .before .before .before .before .before .before .before .before .before .before .before .before .before .before .args in
-    asked (lent (a .connections .now) (a .leases .now) (a .allowances .now)) (a .time) (a .c) (a .random .now) (a .m .now) (a .reply .now) (a .relay .now) (c .before .before .before .before .before .before .before .before .before .before .before .before .before .before .read .result) (c .before .before .before .before .before .before .before .before .before .before .before .before .before .before .read .ensures) _ _ (c .before .before .before .before .before .before .before .before .before .before .before .before .d2 .given .1)
+    asked (lent (a .connections .now) (a .leases .now) (a .allowances .now)) (a .time) (a .c) (a .peer) (a .random .now) (a .m .now) (a .reply .now) (a .relay .now) (c .before .before .before .before .before .before .before .before .before .before .before .before .before .before .read .result) (c .before .before .before .before .before .before .before .before .before .before .before .before .before .before .read .ensures) _ _ (c .before .before .before .before .before .before .before .before .before .before .before .before .d2 .given .1)
     (c .before .before .before .before .before .before .establish .ensures (a .allowances .now))
 
 same-length-14 : tie.Need-same-length-14
@@ -154,26 +151,23 @@ returns-6 : tie.Need-returns-6
 unfolding planMessage
 returns-6 c =
     let a = c .before .before .before .before .before .before .before .before .before .before .before .before .before .before .before .before .before .args in
-    asked (lent (a .connections .now) (a .leases .now) (a .allowances .now)) (a .time) (a .c) (a .random .now) (a .m .now) (a .reply .now) (a .relay .now) (c .before .before .before .before .before .before .before .before .before .read .result) (c .before .before .before .before .before .before .before .before .before .read .ensures) _ _ (c .before .before .before .before .before .before .before .enum-told4 .given .1)
+    asked (lent (a .connections .now) (a .leases .now) (a .allowances .now)) (a .time) (a .c) (a .peer) (a .random .now) (a .m .now) (a .reply .now) (a .relay .now) (c .before .before .before .before .before .before .before .before .before .read .result) (c .before .before .before .before .before .before .before .before .before .read .ensures) _ _ (c .before .before .before .before .before .before .before .enum-told4 .given .1)
     (c .before .before .before .before .end .ensures (a .leases .now) (a .allowances .now) (a .reply .now))
 
 same-length-16 : tie.Need-same-length-16
 same-length-16 c = search needs
 
-same-length-17 : tie.Need-same-length-17
-same-length-17 c = search needs
-
 returns-7 : tie.Need-returns-7
 unfolding planMessage
 returns-7 c =
-    let a = c .before .before .before .before .before .before .before .before .before .before .before .before .before .before .before .args in
-    asked (lent (a .connections .now) (a .leases .now) (a .allowances .now)) (a .time) (a .c) (a .random .now) (a .m .now) (a .reply .now) (a .relay .now) (c .before .before .before .before .before .before .before .read .result) (c .before .before .before .before .before .before .before .read .ensures) _ _ (c .before .before .before .before .before .enum-told5 .given .1)
-    (c .before .before .send .ensures (a .leases .now) (a .allowances .now) (a .reply .now))
+    let a = c .before .before .before .before .before .before .before .before .before .before .before .before .before .before .args in
+    asked (lent (a .connections .now) (a .leases .now) (a .allowances .now)) (a .time) (a .c) (a .peer) (a .random .now) (a .m .now) (a .reply .now) (a .relay .now) (c .before .before .before .before .before .before .read .result) (c .before .before .before .before .before .before .read .ensures) _ _ (c .before .before .before .before .enum-told5 .given .1)
+    (c .before .before .send .ensures (a .connections .now) (a .leases .now) (a .allowances .now) (a .reply .now))
 
 returns-8 : tie.Need-returns-8
 returns-8 c =
     let a = c .before .before .before .before .before .before .before .before .before .before .args in
-    nothing-asked (lent (a .connections .now) (a .leases .now) (a .allowances .now)) (a .time) (a .c) (a .random .now) (a .m .now) (a .reply .now) (a .relay .now) (c .before .before .read .result) (c .before .before .read .ensures) _ (c .before .match .keys8)
+    nothing-asked (lent (a .connections .now) (a .leases .now) (a .allowances .now)) (a .time) (a .c) (a .peer) (a .random .now) (a .m .now) (a .reply .now) (a .relay .now) (c .before .before .read .result) (c .before .before .read .ensures) _ (c .before .match .keys8)
     (nothing-done (a .connections .now) (a .leases .now) (a .allowances .now) (a .reply .now) (a .relay .now) (c .sent-nothing .result) (c .sent-nothing .ensures))
 
 pub handle-spec : {M : Type 1} → statement M
@@ -218,6 +212,5 @@ handle-spec =
     same-length-15
     returns-6
     same-length-16
-    same-length-17
     returns-7
     returns-8)

@@ -1,5 +1,5 @@
--- `own_refusal`: a way out for each of checks 4 to 8.
-use Rattle.message_refusal.proofs.MessageStops.{own-wrong-state, own-wrong-lengths, own-not-from-peer, own-not-permitted, own-no-session, own-pass}
+-- `own_refusal`: a way out for each of checks 4 to 7.
+use Rattle.message_refusal.proofs.MessageStops.{own-wrong-state, own-wrong-lengths, own-not-from-peer, own-not-permitted, own-pass}
 use borrow.Author.Needs.{needs}
 use Rattle.message_refusal.proofs.own_refusal.Statement.{statement}
 use Rattle.message_refusal.proofs.own_refusal.Tie as tie
@@ -17,16 +17,19 @@ are-wrong-lengths-requires c κs = search needs
 
 returns-2 : tie.Need-returns-2
 returns-2 c time reply relay n l =
-    let a = c .before .before .before .before .before .before .before .args in
-    own-wrong-lengths (a .connections .now) time (a .c) (a .m .now) (a .random .now) reply relay _ (c .before .before .before .state .ensures) (c .before .before .if1 .left) _ (c .before .are-wrong-lengths .ensures time (a .c) reply relay n l) (c .if2 .taken)
+    let s = c .before .before in
+    let a = s .before .before .before .before .before .args in
+    own-wrong-lengths (a .connections .now) time (a .c) (a .m .now) (a .random .now) reply relay _ (s .before .state .ensures) (s .if1 .left) _ (c .before .are-wrong-lengths .ensures time (a .c) reply relay n l) (c .if2 .taken)
 
 from-peer-requires : tie.Need-from-peer-requires
 from-peer-requires c κs = search needs
 
 returns-3 : tie.Need-returns-3
 returns-3 c time reply relay n l =
-    let a = c .before .before .before .before .before .before .before .before .before .args in
-    own-not-from-peer (a .connections .now) time (a .c) (a .m .now) (a .random .now) reply relay _ (c .before .before .before .before .before .state .ensures) (c .before .before .before .before .if1 .left) _ (c .before .before .before .are-wrong-lengths .ensures time (a .c) reply relay n l) (c .before .before .if2 .left) _ (c .before .from-peer .ensures) (c .if3 .taken)
+    let t = c .before .before in
+    let s = t .before .before in
+    let a = s .before .before .before .before .before .args in
+    own-not-from-peer (a .connections .now) time (a .c) (a .m .now) (a .random .now) reply relay _ (s .before .state .ensures) (s .if1 .left) _ (t .before .are-wrong-lengths .ensures time (a .c) reply relay n l) (t .if2 .left) _ (c .before .from-peer .ensures) (c .if3 .taken)
 
 byte-requires : tie.Need-byte-requires
 byte-requires c κs = search needs
@@ -36,21 +39,19 @@ is-permitted-requires c κs = search needs
 
 returns-4 : tie.Need-returns-4
 returns-4 c time reply relay n l =
-    let a = c .before .before .before .before .before .before .before .before .before .before .before .before .args in
-    own-not-permitted (a .connections .now) time (a .c) (a .m .now) (a .random .now) reply relay _ (c .before .before .before .before .before .before .before .before .state .ensures) (c .before .before .before .before .before .before .before .if1 .left) _ (c .before .before .before .before .before .before .are-wrong-lengths .ensures time (a .c) reply relay n l) (c .before .before .before .before .before .if2 .left) _ (c .before .before .before .before .from-peer .ensures) (c .before .before .before .if3 .left) _ (c .before .before .byte .ensures) _ (c .before .is-permitted .ensures) (c .if4 .taken)
-
-has-no-session-requires : tie.Need-has-no-session-requires
-has-no-session-requires c κs = search needs
+    let u = c .before .before .before in
+    let t = u .before .before in
+    let s = t .before .before in
+    let a = s .before .before .before .before .before .args in
+    own-not-permitted (a .connections .now) time (a .c) (a .m .now) (a .random .now) reply relay _ (s .before .state .ensures) (s .if1 .left) _ (t .before .are-wrong-lengths .ensures time (a .c) reply relay n l) (t .if2 .left) _ (u .before .from-peer .ensures) (u .if3 .left) _ (c .before .before .byte .ensures) _ (c .before .is-permitted .ensures) (c .if4 .taken)
 
 returns-5 : tie.Need-returns-5
 returns-5 c time reply relay n l =
-    let a = c .before .before .before .before .before .before .before .before .before .before .before .before .before .before .args in
-    own-no-session (a .connections .now) time (a .c) (a .m .now) (a .random .now) reply relay _ (c .before .before .before .before .before .before .before .before .before .before .state .ensures) (c .before .before .before .before .before .before .before .before .before .if1 .left) _ (c .before .before .before .before .before .before .before .before .are-wrong-lengths .ensures time (a .c) reply relay n l) (c .before .before .before .before .before .before .before .if2 .left) _ (c .before .before .before .before .before .before .from-peer .ensures) (c .before .before .before .before .before .if3 .left) _ (c .before .before .before .before .byte .ensures) _ (c .before .before .before .is-permitted .ensures) (c .before .before .if4 .left) _ (c .before .has-no-session .ensures) (c .if5 .taken)
-
-returns-6 : tie.Need-returns-6
-returns-6 c time reply relay n l =
-    let a = c .before .before .before .before .before .before .before .before .before .before .before .before .before .before .args in
-    own-pass (a .connections .now) time (a .c) (a .m .now) (a .random .now) reply relay _ (c .before .before .before .before .before .before .before .before .before .before .state .ensures) (c .before .before .before .before .before .before .before .before .before .if1 .left) _ (c .before .before .before .before .before .before .before .before .are-wrong-lengths .ensures time (a .c) reply relay n l) (c .before .before .before .before .before .before .before .if2 .left) _ (c .before .before .before .before .before .before .from-peer .ensures) (c .before .before .before .before .before .if3 .left) _ (c .before .before .before .before .byte .ensures) _ (c .before .before .before .is-permitted .ensures) (c .before .before .if4 .left) _ (c .before .has-no-session .ensures) (c .if5 .left)
+    let u = c .before .before .before in
+    let t = u .before .before in
+    let s = t .before .before in
+    let a = s .before .before .before .before .before .args in
+    own-pass (a .connections .now) time (a .c) (a .m .now) (a .random .now) reply relay _ (s .before .state .ensures) (s .if1 .left) _ (t .before .are-wrong-lengths .ensures time (a .c) reply relay n l) (t .if2 .left) _ (u .before .from-peer .ensures) (u .if3 .left) _ (c .before .before .byte .ensures) _ (c .before .is-permitted .ensures) (c .if4 .left)
 
 pub own-refusal-spec : {M : Type 1} → statement M
 own-refusal-spec =
@@ -65,6 +66,4 @@ own-refusal-spec =
     byte-requires
     is-permitted-requires
     returns-4
-    has-no-session-requires
-    returns-5
-    returns-6)
+    returns-5)

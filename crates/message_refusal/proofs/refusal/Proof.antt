@@ -1,73 +1,68 @@
--- `refusal`: the first three checks, then its own, then the price.
+-- `refusal`: the first eight checks, then the price.
 use native.Mathlib.Omega.{arith}
 use Rattle.rules.specs.Tables.{lent}
 use Rattle.rules.specs.Calls.{message}
-use Rattle.refusals.proofs.Stops.{three-known, three-sized, three-stop}
-use Rattle.checks.proofs.MessageChecks.{peer-length}
-use Rattle.message_refusal.proofs.MessageStops.{own-stop, own-peer, message-above-level, message-passes}
+use Rattle.rules.specs.Charges.{callerLevel}
+use Rattle.message_refusal.proofs.MessageStops.{eight-length, eight-known, eight-stop, above-level, all-pass}
 use borrow.Author.Needs.{needs}
 use Rattle.message_refusal.proofs.refusal.Statement.{statement}
 use Rattle.message_refusal.proofs.refusal.Tie as tie
 
-first-three-requires : tie.Need-first-three-requires
-first-three-requires c κs = search needs
+first-eight-requires : tie.Need-first-eight-requires
+first-eight-requires c κs = search needs
 
 returns : tie.Need-returns
 returns c reply relay n l =
-    let a = c .before .before .before .before .before .before .before .args in
-    three-stop (lent (a .connections .now) (a .leases .now) (a .allowances .now)) (message (a .time) (a .connection) (a .m .now) (a .random .now) reply relay) _ (c .before .first-three .ensures) (c .if1 .taken)
+    let a = c .before .before .before .before .before .before .before .before .args in
+    eight-stop (lent (a .connections .now) (a .leases .now) (a .allowances .now)) (message (a .time) (a .connection) (a .m .now) (a .random .now) reply relay) _ (c .before .before .first-eight .ensures reply relay n l) (c .if1 .taken)
 
-cast-c : tie.Need-cast-c
-cast-c c =
-    let a = c .before .before .before .before .before .before .before .args in
-    let known = three-known (lent (a .connections .now) (a .leases .now) (a .allowances .now)) (a .time) (a .connection) _ (c .before .first-three .ensures) (c .if1 .left) in
-    omega arith
-
-own-refusal-requires : tie.Need-own-refusal-requires
-own-refusal-requires c κs = search needs
-
-returns-2 : tie.Need-returns-2
-returns-2 c reply relay n l =
-    let a = c .before .before .before .before .before .before .before .before .before .args in
-    own-stop (lent (a .connections .now) (a .leases .now) (a .allowances .now)) (a .time) (a .connection) (a .m .now) (a .random .now) reply relay _ _ (c .before .before .before .first-three .ensures) (c .before .before .if1 .left) (c .before .own-refusal .ensures (a .time) reply relay n l) (c .if2 .taken)
+cast-partner-of : tie.Need-cast-partner-of
+cast-partner-of c =
+    let a = c .before .before .before .before .before .before .before .before .args in
+    let known = eight-known (lent (a .connections .now) (a .leases .now) (a .allowances .now)) (a .time) (a .connection) (a .m .now) (a .random .now) _ _ _ (c .before .before .first-eight .ensures) (c .if1 .left) in
+    omega (arith, known .0)
 
 partner-of-requires : tie.Need-partner-of-requires
 partner-of-requires c κs = search needs
 
 level-requires : tie.Need-level-requires
 level-requires c κs =
-    let a = c .before .before .before .before .before .before .before .before .before .before .args in
-    let known = three-known (lent (a .connections .now) (a .leases .now) (a .allowances .now)) (a .time) (a .connection) _ (c .before .before .before .before .first-three .ensures) (c .before .before .before .if1 .left) in
-    (three-sized (lent (a .connections .now) (a .leases .now) (a .allowances .now)) (a .time) (a .connection) _ (c .before .before .before .before .first-three .ensures) (c .before .before .before .if1 .left) .allowances, omega (arith, c .partner-of .ensures))
+    let s = c .before in
+    let a = s .before .before .before .before .before .before .before .before .args in
+    let known = eight-known (lent (a .connections .now) (a .leases .now) (a .allowances .now)) (a .time) (a .connection) (a .m .now) (a .random .now) _ _ _ (s .before .before .first-eight .ensures) (s .if1 .left) in
+    (known .1, omega (arith, known .0, c .partner-of .ensures))
 
 cost-requires : tie.Need-cost-requires
 cost-requires c κs =
-    let a = c .before .before .before .before .before .before .before .before .before .before .before .args in
-    peer-length (a .m .now) (own-peer (a .connections .now) (a .time) (a .connection) (a .m .now) (a .random .now) _ _ _ (c .before .before .before .own-refusal .ensures (a .time)) (c .before .before .if2 .left))
+    let s = c .before .before in
+    let a = s .before .before .before .before .before .before .before .before .args in
+    eight-length (lent (a .connections .now) (a .leases .now) (a .allowances .now)) (a .time) (a .connection) (a .m .now) (a .random .now) _ _ _ (s .before .before .first-eight .ensures) (s .if1 .left)
+
+returns-2 : tie.Need-returns-2
+unfolding callerLevel
+returns-2 c reply relay n l =
+    let s = c .before .before .before .before in
+    let a = s .before .before .before .before .before .before .before .before .args in
+    above-level (lent (a .connections .now) (a .leases .now) (a .allowances .now)) (message (a .time) (a .connection) (a .m .now) (a .random .now) reply relay) _ (s .before .before .first-eight .ensures reply relay n l) (s .if1 .left) _ _
+    (rw (← (c .before .before .before .partner-of .ensures)) (c .before .before .level .ensures)) (c .before .cost .ensures (a .time) (a .connection) (a .random .now) reply relay) (c .if2 .taken)
 
 returns-3 : tie.Need-returns-3
+unfolding callerLevel
 returns-3 c reply relay n l =
-    let a = c .before .before .before .before .before .before .before .before .before .before .before .before .before .args in
-    message-above-level (lent (a .connections .now) (a .leases .now) (a .allowances .now)) (a .time) (a .connection) (a .m .now) (a .random .now) reply relay _ _ (c .before .before .before .before .before .before .before .first-three .ensures) (c .before .before .before .before .before .before .if1 .left) (c .before .before .before .before .before .own-refusal .ensures (a .time) reply relay n l) (c .before .before .before .before .if2 .left) _ _
-    (rw (← (c .before .before .before .partner-of .ensures)) (c .before .before .level .ensures)) (c .before .cost .ensures (a .time) (a .connection) (a .random .now) reply relay) (c .if3 .taken)
-
-returns-4 : tie.Need-returns-4
-returns-4 c reply relay n l =
-    let a = c .before .before .before .before .before .before .before .before .before .before .before .before .before .args in
-    message-passes (lent (a .connections .now) (a .leases .now) (a .allowances .now)) (a .time) (a .connection) (a .m .now) (a .random .now) reply relay _ _ (c .before .before .before .before .before .before .before .first-three .ensures) (c .before .before .before .before .before .before .if1 .left) (c .before .before .before .before .before .own-refusal .ensures (a .time) reply relay n l) (c .before .before .before .before .if2 .left) _ _
-    (rw (← (c .before .before .before .partner-of .ensures)) (c .before .before .level .ensures)) (c .before .cost .ensures (a .time) (a .connection) (a .random .now) reply relay) (c .if3 .left)
+    let s = c .before .before .before .before in
+    let a = s .before .before .before .before .before .before .before .before .args in
+    all-pass (lent (a .connections .now) (a .leases .now) (a .allowances .now)) (message (a .time) (a .connection) (a .m .now) (a .random .now) reply relay) _ (s .before .before .first-eight .ensures reply relay n l) (s .if1 .left) _ _
+    (rw (← (c .before .before .before .partner-of .ensures)) (c .before .before .level .ensures)) (c .before .cost .ensures (a .time) (a .connection) (a .random .now) reply relay) (c .if2 .left)
 
 pub refusal-spec : {M : Type 1} → statement M
 refusal-spec =
     tie.close
     (tie.spec
-    first-three-requires
+    first-eight-requires
     returns
-    cast-c
-    own-refusal-requires
-    returns-2
+    cast-partner-of
     partner-of-requires
     level-requires
     cost-requires
-    returns-3
-    returns-4)
+    returns-2
+    returns-3)

@@ -3,7 +3,7 @@ use native.Mathlib.Omega.{arith}
 use mathlib.Core.Path.{refl, _∙_}
 use Rattle.rules.specs.Tables.{lent}
 use Rattle.rules.specs.Calls.{message}
-use Rattle.refusals.proofs.Stops.{call-known}
+use Rattle.message_refusal.proofs.MessageStops.{nine-number}
 use Rattle.answers.proofs.Ways.{refused-way}
 use Rattle.relay_message.proofs.Ways.{admitted, admitted-length, admitted-payable, message-way}
 use borrow.Author.Needs.{needs}
@@ -27,19 +27,23 @@ same-length-3 c = search needs
 
 returns : tie.Need-returns
 returns c =
-    let a = c .before .before .before .before .before .before .before .before .before .before .before .before .before .args in
-    refused-way (lent (a .connections .now) (a .leases .now) (a .allowances .now)) (message (a .time) (a .connection) (a .m .now) (a .random .now) (a .reply .now) (a .relay .now)) (c .before .before .refusal .result) (c .before .before .refusal .ensures (a .reply .now) (a .relay .now) refl refl) (c .before .if1 .taken) (c .sent-nothing .result) (c .sent-nothing .ensures)
+    let s = c .before in
+    let a = s .before .before .before .before .before .before .before .before .before .before .before .before .before .args in
+    let k = nine-number (lent (a .connections .now) (a .leases .now) (a .allowances .now)) (message (a .time) (a .connection) (a .m .now) (a .random .now) (a .reply .now) (a .relay .now)) (s .before .before .refusal .result) (s .before .before .refusal .ensures (a .reply .now) (a .relay .now) refl refl) in
+    refused-way (lent (a .connections .now) (a .leases .now) (a .allowances .now)) (message (a .time) (a .connection) (a .m .now) (a .random .now) (a .reply .now) (a .relay .now)) _ k (s .if1 .taken) (c .sent-nothing .result) (c .sent-nothing .ensures)
 
 cast-c : tie.Need-cast-c
 cast-c c =
-    let a = c .before .before .before .before .before .before .before .before .before .before .before .before .args in
-    let known = call-known (lent (a .connections .now) (a .leases .now) (a .allowances .now)) (message (a .time) (a .connection) (a .m .now) (a .random .now) (a .reply .now) (a .relay .now)) (c .before .refusal .result) (c .before .refusal .ensures (a .reply .now) (a .relay .now) refl refl) (c .if1 .left) in
-    omega arith
+    let s = c in
+    let a = s .before .before .before .before .before .before .before .before .before .before .before .before .before .args in
+    let p = admitted (lent (a .connections .now) (a .leases .now) (a .allowances .now)) (a .time) (a .connection) (a .m .now) (a .random .now) (a .reply .now) (a .relay .now) (s .before .before .refusal .result) (s .before .before .refusal .ensures (a .reply .now) (a .relay .now) refl refl) (s .if1 .left) in
+    omega (arith, p .known)
 
 handle-requires : tie.Need-handle-requires
 handle-requires c κs =
-    let a = c .before .before .before .before .before .before .before .before .before .before .before .before .before .before .before .before .before .args in
-    let p = admitted (lent (a .connections .now) (a .leases .now) (a .allowances .now)) (a .time) (a .connection) (a .m .now) (a .random .now) (a .reply .now) (a .relay .now) (c .before .before .before .before .before .before .refusal .result) (c .before .before .before .before .before .before .refusal .ensures (a .reply .now) (a .relay .now) refl refl) (c .before .before .before .before .before .if1 .left) in
+    let s = c .before .before .before .before .before in
+    let a = s .before .before .before .before .before .before .before .before .before .before .before .before .before .args in
+    let p = admitted (lent (a .connections .now) (a .leases .now) (a .allowances .now)) (a .time) (a .connection) (a .m .now) (a .random .now) (a .reply .now) (a .relay .now) (s .before .before .refusal .result) (s .before .before .refusal .ensures (a .reply .now) (a .relay .now) refl refl) (s .if1 .left) in
     search needs
 
 answered-requires : tie.Need-answered-requires
@@ -50,11 +54,9 @@ sent-requires c κs = search needs
 
 settle-requires : tie.Need-settle-requires
 settle-requires c κs =
-    let a = c .before .before .before .before .before .before .before .before .before .before .before .before .before .before .before .before .before .before .before .before .before .before .before .before .before .before .before .before .before .before .before .before .before .before .before .args in
-    let k = c .before .before .before .before .before .before .before .before .before .before .before .before .before .before .before .before .before .before .before .before .before .before .before .before .refusal .result in
-    let e = c .before .before .before .before .before .before .before .before .before .before .before .before .before .before .before .before .before .before .before .before .before .before .before .before .refusal .ensures (a .reply .now) (a .relay .now) refl refl in
-    let z = c .before .before .before .before .before .before .before .before .before .before .before .before .before .before .before .before .before .before .before .before .before .before .before .if1 .left in
-    (admitted-length (lent (a .connections .now) (a .leases .now) (a .allowances .now)) (a .time) (a .connection) (a .m .now) (a .random .now) (a .reply .now) (a .relay .now) k e z, admitted-payable (lent (a .connections .now) (a .leases .now) (a .allowances .now)) (a .time) (a .connection) (a .m .now) (a .random .now) (a .reply .now) (a .relay .now) k e z)
+    let s = c .before .before .before .before .before .before .before .before .before .before .before .before .before .before .before .before .before .before .before .before .before .before .before in
+    let a = s .before .before .before .before .before .before .before .before .before .before .before .before .before .args in
+    (admitted-length (lent (a .connections .now) (a .leases .now) (a .allowances .now)) (a .time) (a .connection) (a .m .now) (a .random .now) (a .reply .now) (a .relay .now) (s .before .before .refusal .result) (s .before .before .refusal .ensures (a .reply .now) (a .relay .now) refl refl) (s .if1 .left), admitted-payable (lent (a .connections .now) (a .leases .now) (a .allowances .now)) (a .time) (a .connection) (a .m .now) (a .random .now) (a .reply .now) (a .relay .now) (s .before .before .refusal .result) (s .before .before .refusal .ensures (a .reply .now) (a .relay .now) refl refl) (s .if1 .left))
 
 same-length-4 : tie.Need-same-length-4
 same-length-4 c = search needs
@@ -73,8 +75,9 @@ same-length-8 c = search needs
 
 returns-2 : tie.Need-returns-2
 returns-2 c =
-    let a = c .before .before .before .before .before .before .before .before .before .before .before .before .before .before .before .before .before .before .before .before .before .before .before .before .before .before .before .before .before .before .before .before .before .before .before .before .before .before .args in
-    message-way (lent (a .connections .now) (a .leases .now) (a .allowances .now)) (a .time) (a .connection) (a .m .now) (a .random .now) (a .reply .now) (a .relay .now) (c .before .before .before .before .before .before .before .before .before .before .before .before .before .before .before .before .before .before .before .before .before .before .before .before .before .before .before .refusal .result) (c .before .before .before .before .before .before .before .before .before .before .before .before .before .before .before .before .before .before .before .before .before .before .before .before .before .before .before .refusal .ensures (a .reply .now) (a .relay .now) refl refl) (c .before .before .before .before .before .before .before .before .before .before .before .before .before .before .before .before .before .before .before .before .before .before .before .before .before .before .if1 .left) _ _ _ _ _ _ (c .before .before .before .before .before .before .before .before .before .before .before .before .before .before .before .before .before .before .before .before .handle .result) (c .before .before .before .before .before .before .before .before .before .before .before .before .before .before .before .before .before .before .before .before .handle .ensures)
+    let s = c .before .before .before .before .before .before .before .before .before .before .before .before .before .before .before .before .before .before .before .before .before .before .before .before .before .before in
+    let a = s .before .before .before .before .before .before .before .before .before .before .before .before .before .args in
+    message-way (lent (a .connections .now) (a .leases .now) (a .allowances .now)) (a .time) (a .connection) (a .m .now) (a .random .now) (a .reply .now) (a .relay .now) (s .before .before .refusal .result) (s .before .before .refusal .ensures (a .reply .now) (a .relay .now) refl refl) (s .if1 .left) _ _ _ _ _ _ (c .before .before .before .before .before .before .before .before .before .before .before .before .before .before .before .before .before .before .before .before .handle .result) (c .before .before .before .before .before .before .before .before .before .before .before .before .before .before .before .before .before .before .before .before .handle .ensures)
     (c .before .before .before .before .before .before .sent .ensures ∙ rw (c .before .before .before .before .before .before .before .before .before .before .answered .ensures)) (c .before .before .settle .ensures (a .random .now) (a .reply .now) (a .relay .now))
 
 pub crondelith-message-spec : {M : Type 1} → statement M

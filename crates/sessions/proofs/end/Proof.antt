@@ -8,9 +8,6 @@ use borrow.Author.Needs.{needs}
 use Rattle.sessions.proofs.end.Statement.{statement}
 use Rattle.sessions.proofs.end.Tie as tie
 
-peer-requires : tie.Need-peer-requires
-peer-requires c κs = search needs
-
 end-session-requires : tie.Need-end-session-requires
 end-session-requires c κs = search needs
 
@@ -33,15 +30,16 @@ same-length-2 c = search needs
 returns : tie.Need-returns
 unfolding wellFormed encode
 returns c ls al reply =
-    let a = c .before .before .before .before .before .before .before .before .before .before .before .before .before .before .args in
-    ended (a .connections .now) ls al reply (a .relay .now) (a .c) _ _ _ _ _ (c .before .before .before .before .before .before .before .before .before .before .peer .ensures) (c .before .before .before .before .before .before .before .before .end-session .ensures) (sent-length SessionEndNotification (c .before .before .before .before .before .before .before .before .before .before .before .before .before .before .args .relay .now) _ (c .before .before .before .before .svsc-write-session-end-notification .ensures) refl (omega (arith, c .before .before .before .before .before .before .before .before .before .before .before .before .before .before .pre)))
-    (sent-buffer SessionEndNotification (c .before .before .before .before .before .before .before .before .before .before .before .before .before .before .args .relay .now) _ (c .before .before .before .before .svsc-write-session-end-notification .ensures) refl (omega (arith, c .before .before .before .before .before .before .before .before .before .before .before .before .before .before .pre))) (c .relayed .ensures)
+    let s = c .before .before .before .before .before .before .before .before .before .before .before .before in
+    let wrote = c .before .before .before .before .svsc-write-session-end-notification .ensures in
+    ended (s .args .connections .now) ls al reply (s .args .relay .now) (s .args .c) _ _ _ _ _ (c .before .before .before .before .before .before .before .before .end-session .ensures)
+    (sent-length SessionEndNotification (s .args .relay .now) _ wrote refl (omega (arith, s .pre)))
+    (sent-buffer SessionEndNotification (s .args .relay .now) _ wrote refl (omega (arith, s .pre))) (c .relayed .ensures)
 
 pub end-spec : {M : Type 1} → statement M
 end-spec =
     tie.close
     (tie.spec
-    peer-requires
     end-session-requires
     svsc-write-session-end-notification-requires
     cast-relayed
