@@ -2,9 +2,9 @@
 
 use std::ops::{Deref, DerefMut};
 
-/// What the address of a send's data in the relay buffer should be a multiple of: the engine's copy stores so many bytes
-/// at a time. Elsewhere a quarter of the stores cross the end of a line of the cache, and a long send takes 1.2 times as
-/// long; larger multiples gain nothing more. `crondelith bench` shows it.
+/// The address of a send's data in the relay buffer should be a multiple of it, since the engine's copy stores so many
+/// bytes at a time. Elsewhere every fourth store crosses the end of a line of the cache, and a long send takes 1.2 to 1.4
+/// times as long; larger multiples gain nothing. `crondelith bench` shows it.
 pub const DATA_ALIGNMENT: usize = 16;
 
 /// A buffer to lend for what is relayed: its second byte, where a send's data begins, is aligned.

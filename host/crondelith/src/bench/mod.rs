@@ -40,8 +40,8 @@ production'. The second table is of a partner that makes a round trip every 4 ms
 while the seven others send as fast as they can from 56 connections. What sends the flood shares the
 machine's cores with the relay.
 
-Either takes its time, some twenty seconds or two minutes, and is meant for a machine with nothing else
-to do.
+Either takes its time, some twenty seconds or two minutes, and is meant for a machine with nothing
+else to do.
 
 The exit status is 0 if all was measured, 1 if not, also when interrupted before (Ctrl-C), and 2 if
 the arguments are wrong.";
