@@ -47,6 +47,9 @@ crondelith_answer crondelith_open(uint8_t *connections, size_t connections_lengt
                                   uint8_t *allowances, size_t allowances_length, uint64_t now, uint64_t connection, uint8_t *reply,
                                   size_t reply_length);
 
+/* Any relay buffer that is long enough serves. A long send is fastest where the buffer's second byte, at which its data begins, is at a
+ * multiple of 16; elsewhere it takes 1.2 to 1.4 times as long.
+ */
 crondelith_answer crondelith_message(uint8_t *connections, size_t connections_length, uint8_t *leases, size_t leases_length,
                                      uint8_t *allowances, size_t allowances_length, uint64_t now, uint64_t connection,
                                      const uint8_t *message, size_t message_length, const uint8_t *random, size_t random_length,

@@ -8,4 +8,4 @@ pub mod reasons;
 pub mod relay;
 pub mod svsc;
 
-pub use aligned::RelayBuffer;
+pub use aligned::{RelayBuffer, DATA_ALIGNMENT};

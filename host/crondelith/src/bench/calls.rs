@@ -5,13 +5,14 @@ use std::time::Duration;
 use super::cases::{self, Case};
 use super::measure::{batch, Comparison};
 use super::relays::{Engine, Lent, Second};
-use super::{compare, Aim, Row, Section};
+use super::{compare, Aim, Limit, Row, Section};
 use crate::Failure;
 
 pub fn section() -> Result<Section, Failure> {
     let cases = cases::all().ok_or_else(super::unprepared)?;
     let rows = cases.into_iter().map(row).collect::<Result<_, _>>()?;
-    Ok(Section { rows, aim: Some(Aim { text: "no call slower than the second implementation", greatest_ratio: 1.0 }) })
+    let aim = Aim { text: "no call slower than the second implementation", row: None, limit: Limit::Ratio(1.0) };
+    Ok(Section { rows, aims: vec![aim] })
 }
 
 fn row(case: Case) -> Result<Row, Failure> {

@@ -16,7 +16,7 @@ pub struct Case {
     pub what: &'static str,
     pub calls: Vec<Call>,
     /// By how much the time grows with each repetition.
-    seconds: u64,
+    pub seconds: u64,
     /// The tables, made by calls of the engine, and buffers.
     pub prepared: Lent,
     /// How the last reply must begin: an accepted lease doesn't yet show that the search for its id was the one meant.
@@ -56,7 +56,7 @@ pub fn all() -> Option<Vec<Case>> {
         establish_and_end()?,
         send("send of 1 byte", 1)?,
         send("send of 1,024 bytes", 1_024)?,
-        longest_send()?,
+        send("send of 65,533 bytes", DATA_LIMIT)?,
     ]);
     Some(cases)
 }
@@ -115,11 +115,7 @@ fn establish_and_end() -> Option<Case> {
     })
 }
 
-pub fn longest_send() -> Option<Case> {
-    send("send of 65,533 bytes", DATA_LIMIT)
-}
-
-fn send(what: &'static str, length: usize) -> Option<Case> {
+pub fn send(what: &'static str, length: usize) -> Option<Case> {
     let data = (0..length).map(|place| (place % 251 + 1) as u8).collect::<Vec<_>>();
     let whole = data.len() + 1;
     let mut prepared = Lent::fresh(whole.max(BUFFER))?;

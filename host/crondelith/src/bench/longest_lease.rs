@@ -5,16 +5,17 @@ use std::time::Duration;
 use super::cases::{leases, Case};
 use super::measure::{batch, Comparison};
 use super::relays::{Engine, Lent};
-use super::{compare, Aim, Row, Section};
+use super::{compare, Aim, Limit, Row, Section};
 use crate::Failure;
 
 pub fn section() -> Result<Section, Failure> {
-    let aim = Aim { text: "the longest searches for a row at most 1.3 times a lease without", greatest_ratio: 1.3 };
-    rows(leases::longest()).map(|rows| Section { rows, aim: Some(aim) })
+    let text = "the longest searches for a row at most 1.3 times a lease without";
+    let aim = Aim { text, row: None, limit: Limit::Ratio(1.3) };
+    rows(leases::longest()).map(|rows| Section { rows, aims: vec![aim] })
 }
 
 pub fn made_by_hand() -> Result<Section, Failure> {
-    rows(leases::made_by_hand()).map(|rows| Section { rows, aim: None })
+    rows(leases::made_by_hand()).map(|rows| Section { rows, aims: Vec::new() })
 }
 
 fn rows<const N: usize>(cases: Option<[(Case, Case); N]>) -> Result<Vec<Row>, Failure> {

@@ -22,7 +22,7 @@ const BLOCK: usize = 65_536;
 
 pub fn section() -> Result<Section, Failure> {
     let row = measure().map_err(|error| Failure::Failed(format!("bench: over TCP: {error}")))?;
-    Ok(Section { rows: vec![row], aim: None })
+    Ok(Section { rows: vec![row], aims: Vec::new() })
 }
 
 fn measure() -> io::Result<Row> {

@@ -3,7 +3,7 @@
 use std::time::{Duration, Instant};
 
 /// How long one comparison goes on.
-const TIME: Duration = Duration::from_millis(550);
+const TIME: Duration = Duration::from_millis(500);
 /// Repetitions in a timed batch: so many that reading the clock hardly counts, and so few that most batches end before
 /// the scheduler interrupts them, which happens to the slower side more often.
 const REPETITIONS: u32 = 128;

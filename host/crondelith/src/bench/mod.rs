@@ -3,12 +3,12 @@
 
 mod calls;
 mod cases;
-mod copy;
 mod longest_lease;
 mod loopback;
 mod measure;
 pub mod peers;
 mod relays;
+mod sends;
 
 use clap::Args;
 
@@ -23,9 +23,11 @@ const DETAILS: &str = "\
 Prints a Markdown table. A row has the nanoseconds that one repetition takes of the engine and of
 the other side, which is the second implementation unless the row says otherwise, and their ratio:
 below 1 the engine is faster. Both sides are measured in turn, batch by batch, and the median batch
-counts. Every answer is checked, and after every batch the bytes that both sides left. The last row
-is the whole relay over TCP on this machine, beside a loop that copies from one socket to another;
-its clock jumps, so that nobody waits for an allowance.
+counts. Every answer is checked, and after every batch the bytes that both sides left. A plain copy
+is the C library's, of a send's data from the same message to the same buffer; where it begins in
+the buffer is told, since that counts. The last row is the whole relay over TCP on this machine,
+beside a loop that copies from one socket to another; its clock jumps, so that nobody waits for an
+allowance.
 
 With --peers each relay is a process of its own, and those that aren't installed are left out. The
 same frames go through all: ours hands them on from one connection of a partner to another in
@@ -38,8 +40,8 @@ production'. The second table is of a partner that makes a round trip every 4 ms
 while the seven others send as fast as they can from 56 connections. What sends the flood shares the
 machine's cores with the relay.
 
-Either takes its time, some ten seconds or two minutes, and is meant for a machine with nothing else
-to do.
+Either takes its time, some twenty seconds or two minutes, and is meant for a machine with nothing
+else to do.
 
 The exit status is 0 if all was measured, 1 if not, also when interrupted before (Ctrl-C), and 2 if
 the arguments are wrong.";
@@ -60,13 +62,22 @@ pub struct Arguments {
 /// Rows, and what is hoped of them, if anything.
 struct Section {
     rows: Vec<Row>,
-    aim: Option<Aim>,
+    aims: Vec<Aim>,
 }
 
 struct Aim {
     text: &'static str,
-    /// No row of the section may be above it.
-    greatest_ratio: f64,
+    /// The place of the row that it is about; None: it is about every row.
+    row: Option<usize>,
+    limit: Limit,
+}
+
+#[derive(Clone, Copy)]
+enum Limit {
+    /// The engine's time is at most so many times the other side's.
+    Ratio(f64),
+    /// It is longer by less than so many nanoseconds.
+    Nanoseconds(f64),
 }
 
 struct Row {
@@ -78,6 +89,13 @@ impl Row {
     fn ratio(&self) -> f64 {
         self.medians.engine / self.medians.other
     }
+
+    fn keeps(&self, limit: Limit) -> bool {
+        match limit {
+            Limit::Ratio(greatest) => self.ratio() <= greatest,
+            Limit::Nanoseconds(bound) => self.medians.engine - self.medians.other < bound,
+        }
+    }
 }
 
 impl Section {
@@ -88,17 +106,28 @@ impl Section {
         }
     }
 
-    /// The aim, and whether it is met.
-    fn judged(&self) -> Option<String> {
-        let Aim { text, greatest_ratio } = self.aim.as_ref()?;
-        let met = self.rows.iter().all(|row| row.ratio() <= *greatest_ratio);
-        Some(format!("{text}: {}", if met { "met" } else { "not met" }))
+    /// Each aim, and whether it is met.
+    fn judged(&self) -> impl Iterator<Item = String> + '_ {
+        self.aims.iter().map(|aim| format!("{}: {}", aim.text, if self.meets(aim) { "met" } else { "not met" }))
+    }
+
+    fn meets(&self, aim: &Aim) -> bool {
+        match aim.row {
+            Some(place) => self.rows.get(place).is_some_and(|row| row.keeps(aim.limit)),
+            None => self.rows.iter().all(|row| row.keeps(aim.limit)),
+        }
     }
 }
 
 /// The sections, in the table's order.
-const SECTIONS: [fn() -> Result<Section, Failure>; 5] =
-    [calls::section, longest_lease::section, longest_lease::made_by_hand, copy::section, loopback::section];
+const SECTIONS: [fn() -> Result<Section, Failure>; 6] = [
+    calls::section,
+    longest_lease::section,
+    longest_lease::made_by_hand,
+    sends::by_length,
+    sends::by_place,
+    loopback::section,
+];
 
 pub fn run(arguments: Arguments) -> Outcome {
     Watch::start("interrupted")?;
@@ -120,7 +149,7 @@ pub fn run_with(peers: bool, brief: bool) -> Outcome {
 fn measure_engine() -> Outcome {
     say("| what | engine ns | other ns | engine / other |\n|---|---:|---:|---:|");
     let sections = SECTIONS.into_iter().map(measured).collect::<Result<Vec<_>, _>>()?;
-    let aims = sections.iter().filter_map(Section::judged).collect::<Vec<_>>();
+    let aims = sections.iter().flat_map(Section::judged).collect::<Vec<_>>();
     say(format_args!("\nAims: {}.", aims.join("; ")));
     Ok(())
 }
@@ -141,4 +170,34 @@ fn compare(what: String, comparison: &mut impl Comparison) -> Result<Row, Failur
 
 fn unprepared() -> Failure {
     Failure::Failed("bench: the engine refused a call that prepares the tables".into())
+}
+
+#[cfg(test)]
+mod tests {
+    use super::{Aim, Limit, Medians, Row, Section};
+
+    /// How an aim is judged for rows of these times of the engine and of the other side.
+    fn judged(times: &[(f64, f64)], row: Option<usize>, limit: Limit) -> Vec<String> {
+        let row_of = |&(engine, other)| Row { what: String::new(), medians: Medians { engine, other } };
+        let rows = times.iter().map(row_of).collect();
+        Section { rows, aims: vec![Aim { text: "aim", row, limit }] }.judged().collect()
+    }
+
+    #[test]
+    fn an_aim_is_met_by_its_rows_up_to_its_limit() {
+        let times = [(30.0, 20.0), (50.0, 20.0)];
+        for (row, limit, met) in [
+            (None, Limit::Ratio(2.5), true),
+            (None, Limit::Ratio(2.4), false),
+            (Some(0), Limit::Ratio(1.5), true),
+            (Some(1), Limit::Ratio(1.5), false),
+            (None, Limit::Nanoseconds(31.0), true),
+            (None, Limit::Nanoseconds(30.0), false),
+            (Some(0), Limit::Nanoseconds(11.0), true),
+            (Some(1), Limit::Nanoseconds(11.0), false),
+            (Some(2), Limit::Ratio(9.0), false),
+        ] {
+            assert_eq!(judged(&times, row, limit), [if met { "aim: met" } else { "aim: not met" }]);
+        }
+    }
 }
