@@ -1,8 +1,8 @@
 // Stores in lent slices: bytes, runs of bytes and numbers.
 ghost use mathlib.Core.Path.{_≡_};
 ghost use mathlib.Core.List.{[], _∷_};
-ghost use Prim.Native.Nat.{_-_, min};
-ghost use lib.ListN.{replicate};
+ghost use Prim.Native.Nat.{_-_, _≤_, min};
+ghost use lib.ListN.{length, replicate};
 ghost use Rattle.octets.specs.Octets.{put, bigEndian};
 
 // How many of n bytes fit from a place on.
@@ -18,16 +18,24 @@ fn fitting(length: usize, at: usize, n: usize) -> usize
     n
 }
 
-// Copies s to the bytes from a place on; what would fall past the end is dropped.
+// Copies s, which has room from a place on, to the bytes there.
+pub fn store(t: &mut [u8], at: usize, s: &[u8])
+    requires { ⌜ length (now s) ≤ length (now t) - at ⌝ }
+    ensures { λ _. ⌜ now (t .exit) ≡ put (now (t .entry)) at (now (s .entry)) ⌝ }
+{
+    let mut i = 0;
+    while i < s.len() {
+        t[at + i] = s[i];
+        i += 1;
+    }
+}
+
+// The same of any bytes and any place; what would fall past the end is dropped.
 pub fn copy(t: &mut [u8], at: usize, s: &[u8])
     ensures { λ _. ⌜ now (t .exit) ≡ put (now (t .entry)) at (now (s .entry)) ⌝ }
 {
     let n = fitting(t.len(), at, s.len());
-    let mut i = 0;
-    while i < n {
-        t[at + i] = s[i];
-        i += 1;
-    }
+    store(t, at, &s[0..n]);
 }
 
 // Stores v in the n bytes from a place on; what would fall past the end is dropped.

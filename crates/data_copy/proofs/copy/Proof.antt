@@ -13,8 +13,8 @@ returns c =
 write8-requires : tie.Need-write8-requires
 write8-requires c κs = search needs
 
-copy-requires : tie.Need-copy-requires
-copy-requires c κs = search needs
+copy-pieces-requires : tie.Need-copy-pieces-requires
+copy-pieces-requires c κs = omega (arith, c .before .before .before .before .before .if1 .left)
 
 add-result : tie.Need-add-result
 add-result c = search needs
@@ -27,8 +27,8 @@ returns-2 c =
     let s = c .before .before .before .before .before .before .before .before in
     let a = s .before .before .before .args in
     copy-stored (a .bytes .now) (a .buffer .now) (omega (arith, s .if1 .left)) _ _ _ (omega arith)
-    (c .before .before .before .before .before .before .write8 .ensures) (c .before .before .copy .ensures)
+    (c .before .before .before .before .before .before .write8 .ensures) (c .before .before .copy-pieces .ensures)
 
 pub copy-spec : {M : Type 1} → statement M
 copy-spec =
-    tie.close (tie.spec returns write8-requires copy-requires add-result same-length returns-2)
+    tie.close (tie.spec returns write8-requires copy-pieces-requires add-result same-length returns-2)

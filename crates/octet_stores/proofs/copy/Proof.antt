@@ -1,67 +1,50 @@
--- `copy`: the slice holds the first i bytes of s; those that would fall past the end are dropped.
+-- `copy`: what fits; the rest would be dropped.
 use native.Mathlib.Omega.{arith}
-use Prim.Native.Nat.{_≤_, _<_, _-_}
-use mathlib.Core.Path.{_≡_, refl, sym, _∙_}
+use Prim.Native.Nat.{_-_}
+use mathlib.Core.Path.{_≡_, _∙_}
+use lib.ListN.{length-take}
+use Rattle.octets.proofs.Stores.{put-cut}
 use borrow.Author.Needs.{needs}
-use lib.ListN.{length, take, length-set}
-use Rattle.octets.specs.Octets.{put}
-use Rattle.octets.proofs.Stores.{put-none, put-take-more, put-cut}
 use Rattle.octet_stores.proofs.copy.Statement.{statement}
 use Rattle.octet_stores.proofs.copy.Tie as tie
 
-abbrev Inv-loop : tie.InvT-loop
-Inv-loop t₀ at s n i₀ t i = (i ≤ n) × (t ≡ put t₀ at (take i s)) × (length t ≡ length t₀)
-
-abbrev μ-loop : tie.MeasureT-loop
-μ-loop t₀ at s n i₀ t i = n - i
-
-fitting-requires : tie.Need-fitting-requires Inv-loop μ-loop
+fitting-requires : tie.Need-fitting-requires
 fitting-requires c κs = search needs
 
-loop-holds : tie.Need-loop-holds Inv-loop μ-loop
-loop-holds c = (omega arith, sym (put-none _ _), refl)
+sub-store : tie.Need-sub-store
+sub-store c = search needs
 
-shared-slice-read-t : tie.Need-shared-slice-read-t Inv-loop μ-loop
-shared-slice-read-t c = omega arith
+part-store-start : tie.Need-part-store-start
+part-store-start c = omega arith
 
-add-t : tie.Need-add-t Inv-loop μ-loop
-add-t c = omega arith
+part-store-end : tie.Need-part-store-end
+part-store-end c = omega (arith, c .before .fitting .ensures)
 
-slice-write-t : tie.Need-slice-write-t Inv-loop μ-loop
-slice-write-t c = omega arith
+store-requires : tie.Need-store-requires
+store-requires c κs =
+    let n = c .before .before .fitting .result in
+    let s = c .before .before .before .before .before .args .s .now in
+    let all : n - 0 ≡ n = omega arith in
+    rw all (omega (arith, length-take n s, c .before .before .fitting .ensures))
 
-add-i : tie.Need-add-i Inv-loop μ-loop
-add-i c = omega arith
+same-length : tie.Need-same-length
+same-length c = search needs
 
-loop-less : tie.Need-loop-less Inv-loop μ-loop
-loop-less c = omega arith
-
-loop-again : tie.Need-loop-again Inv-loop μ-loop
-loop-again c =
-    let below : c .before .before .loop .i < length (c .before .before .before .before .before .before .args .s .now) = omega arith in
-    (omega arith, simp (put-take-more, ← (c .before .before .loop .inv .1)), simp length-set (c .before .before .loop .inv .2))
-
-same-length : tie.Need-same-length Inv-loop μ-loop
-same-length c = c .before .loop .inv .2
-
-returns : tie.Need-returns Inv-loop μ-loop
+returns : tie.Need-returns
 returns c =
-    let a = c .before .before .before .before .before .args in
-    c .before .loop .inv .1 ∙ put-cut (a .t .now) (a .at) (a .s .now) (c .before .loop .i) (omega arith)
+    let a = c .before .before .before .before .before .before .before .before .args in
+    let n = c .before .before .before .before .before .fitting .result in
+    let all : n - 0 ≡ n = omega arith in
+    (rw all at (c .before .before .store .ensures)) ∙ put-cut (a .t .now) (a .at) (a .s .now) n (c .before .before .before .before .before .fitting .ensures)
 
 pub copy-spec : {M : Type 1} → statement M
 copy-spec =
     tie.close
     (tie.spec
-    Inv-loop
-    μ-loop
     fitting-requires
-    loop-holds
-    shared-slice-read-t
-    add-t
-    slice-write-t
-    add-i
-    loop-less
-    loop-again
+    sub-store
+    part-store-start
+    part-store-end
+    store-requires
     same-length
     returns)

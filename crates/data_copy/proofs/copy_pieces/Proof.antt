@@ -1,0 +1,111 @@
+-- `copy_pieces`: the buffer holds the first i bytes, and i grows by a piece.
+use native.Mathlib.Omega.{arith}
+use Prim.Native.Nat.{_+_, _-_, _≤_}
+use mathlib.Core.Path.{_≡_, refl, sym, _∙_}
+use lib.ListN.{length, take}
+use Rattle.octets.specs.Octets.{put}
+use Rattle.octets.proofs.Stores.{length-put, put-none}
+use Rattle.data_copy.proofs.Pieces.{piece-length, piece-ends, next-piece, last-piece}
+use Rattle.data_copy.proofs.copy_pieces.Statement.{statement}
+use Rattle.data_copy.proofs.copy_pieces.Tie as tie
+
+abbrev Inv-loop : tie.InvT-loop
+Inv-loop buffer₀ at bytes i₀ buffer i = (i ≤ length bytes) × (buffer ≡ put buffer₀ at (take i bytes)) × (length buffer ≡ length buffer₀)
+
+abbrev μ-loop : tie.MeasureT-loop
+μ-loop buffer₀ at bytes i₀ buffer i = length bytes - i
+
+loop-holds : tie.Need-loop-holds Inv-loop μ-loop
+loop-holds c = (omega arith, sym (put-none _ _), refl)
+
+sub-loop : tie.Need-sub-loop Inv-loop μ-loop
+sub-loop c = c .loop .inv .0
+
+add-copy-piece : tie.Need-add-copy-piece Inv-loop μ-loop
+add-copy-piece c = omega arith
+
+add-copy-piece-2 : tie.Need-add-copy-piece-2 Inv-loop μ-loop
+add-copy-piece-2 c = omega arith
+
+sub-copy-piece : tie.Need-sub-copy-piece Inv-loop μ-loop
+sub-copy-piece c = omega arith
+
+part-copy-piece-start : tie.Need-part-copy-piece-start Inv-loop μ-loop
+part-copy-piece-start c = omega arith
+
+part-copy-piece-end : tie.Need-part-copy-piece-end Inv-loop μ-loop
+part-copy-piece-end c = omega arith
+
+copy-piece-requires : tie.Need-copy-piece-requires Inv-loop μ-loop
+copy-piece-requires c κs =
+    let s = c .before .before .before .before .before .before in
+    let l = c .before .before .before .loop in
+    let n = l .i + 2048 - l .i in
+    (omega (arith, piece-length (s .args .bytes .now) (l .i) n), omega (arith, piece-ends (s .args .bytes .now) (l .i) n (l .inv .0), s .pre, l .inv .2))
+
+add-i : tie.Need-add-i Inv-loop μ-loop
+add-i c = omega arith
+
+loop-less : tie.Need-loop-less Inv-loop μ-loop
+loop-less c = omega arith
+
+loop-again : tie.Need-loop-again Inv-loop μ-loop
+loop-again c =
+    let s = c .before .before .before .before .before .before .before .before .before in
+    let l = c .before .before .before .before .before .before .loop in
+    let size : l .i + 2048 - l .i ≡ 2048 = omega arith in
+    let made = c .before .before .copy-piece .ensures in
+    (omega arith, next-piece (s .args .buffer .now) _ _ (s .args .bytes .now) (s .args .at) (l .i) 2048 (l .inv .0) (l .inv .1) (rw size at made), rw made (length-put _ _ _) ∙ l .inv .2)
+
+add-copy-piece-3 : tie.Need-add-copy-piece-3 Inv-loop μ-loop
+add-copy-piece-3 c = omega arith
+
+sub-copy-piece-2 : tie.Need-sub-copy-piece-2 Inv-loop μ-loop
+sub-copy-piece-2 c = c .before .before .loop .inv .0
+
+part-copy-piece-start-2 : tie.Need-part-copy-piece-start-2 Inv-loop μ-loop
+part-copy-piece-start-2 c = omega arith
+
+part-copy-piece-end-2 : tie.Need-part-copy-piece-end-2 Inv-loop μ-loop
+part-copy-piece-end-2 c = omega arith
+
+copy-piece-requires-2 : tie.Need-copy-piece-requires-2 Inv-loop μ-loop
+copy-piece-requires-2 c κs =
+    let s = c .before .before .before .before .before .before in
+    let l = c .before .before .before .loop in
+    let n = length (s .args .bytes .now) - l .i in
+    (omega (arith, piece-length (s .args .bytes .now) (l .i) n), omega (arith, piece-ends (s .args .bytes .now) (l .i) n (l .inv .0), s .pre, l .inv .2))
+
+same-length : tie.Need-same-length Inv-loop μ-loop
+same-length c = rw (c .before .before .copy-piece2 .ensures) (length-put _ _ _) ∙ c .before .before .before .before .before .before .loop .inv .2
+
+returns : tie.Need-returns Inv-loop μ-loop
+returns c =
+    let s = c .before .before .before .before .before .before .before .before .before in
+    let l = c .before .before .before .before .before .before .loop in
+    last-piece (s .args .buffer .now) _ _ (s .args .bytes .now) (s .args .at) (l .i) (l .inv .0) (l .inv .1) (c .before .before .copy-piece2 .ensures)
+
+pub copy-pieces-spec : {M : Type 1} → statement M
+copy-pieces-spec =
+    tie.close
+    (tie.spec
+    Inv-loop
+    μ-loop
+    loop-holds
+    sub-loop
+    add-copy-piece
+    add-copy-piece-2
+    sub-copy-piece
+    part-copy-piece-start
+    part-copy-piece-end
+    copy-piece-requires
+    add-i
+    loop-less
+    loop-again
+    add-copy-piece-3
+    sub-copy-piece-2
+    part-copy-piece-start-2
+    part-copy-piece-end-2
+    copy-piece-requires-2
+    same-length
+    returns)
