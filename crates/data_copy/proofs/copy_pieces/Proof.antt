@@ -5,6 +5,7 @@ use mathlib.Core.Path.{_≡_, refl, sym, _∙_}
 use lib.ListN.{length, take}
 use Rattle.octets.specs.Octets.{put}
 use Rattle.octets.proofs.Stores.{length-put, put-none}
+use Rattle.data_copy.specs.Sizes.{pieceSize}
 use Rattle.data_copy.proofs.Pieces.{piece-length, piece-ends, next-piece, last-piece}
 use Rattle.data_copy.proofs.copy_pieces.Statement.{statement}
 use Rattle.data_copy.proofs.copy_pieces.Tie as tie
@@ -40,7 +41,7 @@ copy-piece-requires : tie.Need-copy-piece-requires Inv-loop μ-loop
 copy-piece-requires c κs =
     let s = c .before .before .before .before .before .before in
     let l = c .before .before .before .loop in
-    let n = l .i + 2048 - l .i in
+    let n = l .i + pieceSize - l .i in
     (omega (arith, piece-length (s .args .bytes .now) (l .i) n), omega (arith, piece-ends (s .args .bytes .now) (l .i) n (l .inv .0), s .pre, l .inv .2))
 
 add-i : tie.Need-add-i Inv-loop μ-loop
@@ -53,9 +54,9 @@ loop-again : tie.Need-loop-again Inv-loop μ-loop
 loop-again c =
     let s = c .before .before .before .before .before .before .before .before .before in
     let l = c .before .before .before .before .before .before .loop in
-    let size : l .i + 2048 - l .i ≡ 2048 = omega arith in
+    let size : l .i + pieceSize - l .i ≡ pieceSize = omega arith in
     let made = c .before .before .copy-piece .ensures in
-    (omega arith, next-piece (s .args .buffer .now) _ _ (s .args .bytes .now) (s .args .at) (l .i) 2048 (l .inv .0) (l .inv .1) (rw size at made), rw made (length-put _ _ _) ∙ l .inv .2)
+    (omega arith, next-piece (s .args .buffer .now) _ _ (s .args .bytes .now) (s .args .at) (l .i) pieceSize (l .inv .0) (l .inv .1) (rw size at made), rw made (length-put _ _ _) ∙ l .inv .2)
 
 add-copy-piece-3 : tie.Need-add-copy-piece-3 Inv-loop μ-loop
 add-copy-piece-3 c = omega arith
