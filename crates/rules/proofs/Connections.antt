@@ -16,7 +16,7 @@ use Rattle.svsc.specs.Messages.{keyBytes}
 use Rattle.rules.specs.Sizes.{connectionCount, connectionBytes, connectionsSize, nobody}
 use Rattle.rules.specs.Tables.{partnerOf, connectionAt, peerAt, keysAt, keysBytes, opened, closed, awaiting, state, isOpen, peer, inSession, hasSession, sessionIdOf, peerIdOf, peerKeyOf, setState, setPeer, freshConnection}
 use Rattle.rules.specs.Sessions.{clear, await, join, leave, endSession}
-use Rattle.rules.specs.Reading.{connectionRecord}
+use Rattle.rules.specs.Bytes.{connectionRecord}
 use Rattle.rules.specs.Effects.{FreshBut, Cleared}
 use Rattle.rules.proofs.Records.{Kept, kept-trans, kept-put, length-part-most, part-part, byte-part, field-same, byte-same, byte-beside, byte-put}
 

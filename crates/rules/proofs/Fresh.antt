@@ -12,7 +12,7 @@ use Rattle.rules.specs.Sizes.{partners, connectionCount, rowCount, lease
 use Rattle.rules.specs.Tables.{allowanceAt, leaseAt, bucketOf, clock, records, freshConnection, freshLease, bucketBytes, fresh}
 use Rattle.rules.specs.Effects.{FreshBut}
 use Rattle.rules.specs.Refusals.{RightSizes}
-use Rattle.rules.specs.Reading.{connectionRecord}
+use Rattle.rules.specs.Bytes.{connectionRecord}
 use Rattle.rules.proofs.Records.{byte-part}
 use Rattle.rules.proofs.Connections.{fresh-record}
 use Rattle.rules.proofs.Allowances.{part-records, fresh-bucket, fresh-clock}

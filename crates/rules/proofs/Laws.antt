@@ -20,21 +20,17 @@ use Rattle.rules.specs.Step.{step, done, start, started}
 use Rattle.rules.specs.Runs.{after, history}
 use Rattle.rules.specs.Bytes.{ChangedOnly}
 use Rattle.rules.specs.Effects.{Marked}
-use Rattle.rules.specs.Laws.{Accepted, Unchanged, WithinPartner, InAllowance, InClock, DistinctIds, SpareZero, InTime}
+use Rattle.rules.specs.Laws.{Accepted, Unchanged, WithinPartner, InAllowance, InClock}
 use Rattle.rules.proofs.Checks.{Passed, passed}
 use Rattle.rules.proofs.Answers.{refused-leaves-all, is-done, done-passed}
 use Rattle.rules.proofs.Metered.{clock-takes-time, bucket-stored}
 use Rattle.rules.proofs.Demand3.{started-fresh, relay-demand3}
 use Rattle.rules.proofs.Same.{same-refl, same-number}
 use Rattle.rules.proofs.Changes.{changed-at, changed-both}
-use Rattle.rules.proofs.Rows.{distinct-later, distinct-fresh}
 use Rattle.rules.proofs.Plans.{kindOf, every-plan}
 use Rattle.rules.proofs.Marks.{session-kept, marks-changed, marked}
 use Rattle.rules.proofs.Within.{asked-within, plan-within}
 use Rattle.rules.proofs.Sessions.{Relays, each-relays}
-use Rattle.rules.proofs.Ids.{run-distinct}
-use Rattle.rules.proofs.Spare.{fresh-spare, run-spare}
-use Rattle.rules.proofs.Timely.{run-in-time}
 
 -- ---- making a fresh relay
 
@@ -179,18 +175,6 @@ module _ (tables : Tables) (call : Call) where
 module _ (lent : Tables) (now : ℕ) (e : start lent now .answer .number ≡ 0) where
   abbrev made : Tables
   made = start lent now .tables
-
-  -- Live ids stay distinct, at any time from the clock on.
-  pub live-ids-distinct : (calls : List Call) (t : ℕ) → clock (after made calls .allowances) ≤ t → DistinctIds (after made calls .leases) t
-  live-ids-distinct calls t l = distinct-later _ _ t l (run-distinct calls made (rw (started-fresh lent now e) (distinct-fresh now _)))
-
-  -- Bytes 3, 14 and 15 of every connection record and 13-15 of every lease row are zero.
-  pub spare-bytes-zero : (calls : List Call) → SpareZero (after made calls)
-  spare-bytes-zero calls = run-spare calls made (rw (started-fresh lent now e) (fresh-spare now))
-
-  -- Byte 2 of every connection record is 0 or 1, and no stored time is after the clock: other values come from other tables.
-  pub times-in-order : (calls : List Call) → InTime (after made calls)
-  times-in-order calls = rw (started-fresh lent now e) (run-in-time calls now)
 
   -- Demand 3 in the relay's words, three fields of `Claim`. Refused with 9 exactly when no check from 1 to 8 applies, the call is charged,
   -- and it costs more than the history before it leaves.

@@ -1,4 +1,4 @@
--- The laws of the rules. For readers: Sizes, Fresh, TableLaws; Refusals, Reasons; CallLaws, MessageLaws, Lookup, KeepaliveLaws, Leases, Marks, Room, Disconnects; Keys, Neighbours,
+-- The laws of the rules. For readers: Sizes, Fresh, TableLaws; Refusals, Reasons; CallLaws, MessageLaws, Lookup, KeepaliveLaws, Leases, Marks, Room, Disconnects;
 -- Laws; Charges, Demand3. The others serve these.
 pub mod Sizes
 pub mod Searches
@@ -17,20 +17,13 @@ pub mod Charges
 pub mod Answers
 pub mod Decisions
 pub mod Leases
-pub mod Reading
 pub mod Plans
 pub mod Marks
 pub mod Within
 pub mod Sessions
-pub mod Ids
-pub mod Spare
 pub mod Room
-pub mod Timely
 pub mod Metered
 pub mod Demand3
-pub mod SamePlans
-pub mod Neighbours
-pub mod Keys
 pub mod Refusals
 pub mod Reasons
 pub mod Laws

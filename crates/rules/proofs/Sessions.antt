@@ -16,8 +16,7 @@ use Rattle.rules.specs.Tables.{Tables, partnerOf, opened, isOpen, peer, 
 use Rattle.rules.specs.Leases.{LeaseDecision, decideLease, rowToExtend}
 use Rattle.rules.specs.Sessions.{EstablishDecision, refusedWith, establishedWith, decideEstablish, randomSessionId, callersPeerId, callersKey, holdersPeerId, holdersKey, join, establish, endSession, clear}
 use Rattle.rules.specs.Plans.{Plan, doNothing, planOpen, planVersionAnswer, planLease, planExtension, planEstablish, planEnd, planData, planClose}
-use Rattle.rules.specs.Reading.{connectionRecord}
-use Rattle.rules.specs.Bytes.{ChangedOnly}
+use Rattle.rules.specs.Bytes.{connectionRecord, ChangedOnly}
 use Rattle.rules.specs.Effects.{InSessionBytes, Cleared}
 use Rattle.rules.proofs.Connections.{Paired, in-session, Joined, joined-first, joined-second, all-keys, ThreeKeys, three-keys, peer-same, keys-same, kept-clear, end-clears-second}
 use Rattle.rules.proofs.Changes.{changed-both, changed-join}

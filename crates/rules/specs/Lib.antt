@@ -16,7 +16,6 @@ pub mod Demand3
 pub mod Reasons
 pub mod Layout
 pub mod Bytes
-pub mod Reading
 pub mod Refusals
 pub mod Effects
 pub mod Laws

@@ -9,22 +9,22 @@ use native.Mathlib.Omega.{arith}
 use lib.Dec.{eqb, ltb}
 use Rattle.octets.specs.Octets.{if_then_else_}
 use Rattle.svsc.specs.Messages.{Message, ProtocolVersion, VersionAnswer, LeaseRequest, LeaseRequestWithCookie, LeaseRefused, LeaseGranted, ExtensionRequest, ExtensionRefused, ExtensionGranted, EstablishRequest, EstablishRefused, Established, EstablishNotification, SessionEnd, SessionEndNotification, DataSend, DataReceive, Keepalive, decode}
 use Rattle.rules.specs.Sizes.{rowsPerPartner}
 use Rattle.rules.specs.Searches.{firstRow, endRow}
 use Rattle.rules.specs.Tables.{Tables, partnerOf, ownerOf, connectionAt, keysAt, bucketOf, clock, sized, peer, hasSession}
 use Rattle.rules.specs.Leases.{LeaseDecision, holdsLease, noSpareRow, cookieInUse, noFreeId, renewed, granted, firstFree, idTaken, idElsewhere, decideLease, leaseEnd, grant, renew, rowToExtend, release}
 use Rattle.rules.specs.Sessions.{EstablishDecision, refusedWith, establishedWith, decideEstablish, clear, await, join, leave, endSession, establish}
 use Rattle.rules.specs.Calls.{Call, opening, message, closing, keepalive, timeOf, connectionOf, callerOf}
 use Rattle.rules.specs.Plans.{Plan, doNothing, planOpen, planVersionAnswer, planLease, planExtension, planEstablish, planEnd, planData, planClose, planMessage, planKeepalive, planCall, answeredBy, heard, stamped, plan}
 use Rattle.rules.specs.Keepalives.{isDead, isDue, ask, answered, stamp}
 use Rattle.rules.specs.Charges.{price, callerLevel}
 use Rattle.rules.specs.Checks.{wrongTime, wrongState, notPermitted, noSession, aboveLevel, firstEight, checks, firstApplying, check}
 use Rattle.rules.specs.Step.{done}
 use Rattle.rules.specs.Bytes.{SameAt}
-use Rattle.rules.specs.Reading.{SameSizes, SameTold}
+use Rattle.noninterference.specs.Reading.{SameSizes, SameTold}
 use Rattle.rules.proofs.Same.{same-put}
 use Rattle.rules.proofs.Decisions.{is-renewed}
-use Rattle.rules.proofs.Reading.{by-both, InLeases, state-same, peer-same, has-session-same, dead-same, due-same, id-same, cookie-same, row-to-extend-same, lease-same, first-free-same, establish-same, release-same}
+use Rattle.noninterference.proofs.Reading.{by-both, InLeases, state-same, peer-same, has-session-same, dead-same, due-same, id-same, cookie-same, row-to-extend-same, lease-same, first-free-same, establish-same, release-same}
 
 -- ---- plans
 

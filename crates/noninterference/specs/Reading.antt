@@ -6,17 +6,11 @@ use mathlib.Core.List.{List}
 use lib.Dec.{eqb}
 use lib.ListN.{length}
 use Rattle.octets.specs.Octets.{part}
-use Rattle.rules.specs.Sizes.{rowCount, connectionBytes, leaseBytes, allowanceBytes}
+use Rattle.rules.specs.Sizes.{rowCount, connectionBytes, allowanceBytes}
 use Rattle.rules.specs.Searches.{anyFrom}
-use Rattle.rules.specs.Tables.{Tables, partnerOf, ownerOf, connectionAt, leaseAt, allowanceAt, liveWithId, clock}
+use Rattle.rules.specs.Tables.{Tables, partnerOf, ownerOf, allowanceAt, liveWithId, clock}
 use Rattle.rules.specs.Calls.{Outcome}
-use Rattle.rules.specs.Bytes.{SameAt}
-
-abbrev pub connectionRecord : List ℕ → ℕ → List ℕ
-connectionRecord cs c = part cs (connectionAt c) connectionBytes
-
-abbrev pub leaseRecord : List ℕ → ℕ → List ℕ
-leaseRecord ls r = part ls (leaseAt r) leaseBytes
+use Rattle.rules.specs.Bytes.{SameAt, connectionRecord, leaseRecord}
 
 abbrev pub allowanceRecord : List ℕ → ℕ → List ℕ
 allowanceRecord al p = part al (allowanceAt p) allowanceBytes

@@ -15,26 +15,26 @@ use Rattle.octets.proofs.Parts.{byte-past}
 use Rattle.octets.proofs.Numbers.{length-bigEndian}
 use Rattle.svsc.specs.Messages.{cookieBytes}
 use Rattle.allowance.specs.Meter as meter
 use Rattle.rules.specs.Sizes.{rowsPerPartner, connectionCount, rowCount, connectionBytes, leaseBytes, timeBytes, nobody}
 use Rattle.rules.specs.Searches.{firstRow, endRow}
 use Rattle.rules.specs.Tables.{Tables, partnerOf, connectionAt, peerAt, keysAt, keysBytes, awaiting, opened, peer, hasSession, setState, setPeer, setUnanswered, leaseAt, idAt, holderAt, cookieAt, setExpiry, setId, setHolder, freshConnection, fresh}
 use Rattle.rules.specs.Leases.{decideLease, leaseEnd, grant, renew, rowToExtend, releaseFrom, release}
 use Rattle.rules.specs.Sessions.{EstablishDecision, refusedWith, establishedWith, decideEstablish, clear, await, join, leave, endSession, establish}
 use Rattle.rules.specs.Keepalives.{ask, answered, stamp}
 use Rattle.rules.specs.Calls.{Call, timeOf, connectionOf}
 use Rattle.rules.specs.Charges.{received}
 use Rattle.rules.specs.Plans.{Plan, planOpen, planVersionAnswer, planLease, planExtension, planEstablish, planEnd, planData, planClose, planCall, answeredBy, plan}
 use Rattle.rules.specs.Step.{step, done}
 use Rattle.rules.specs.Runs.{after}
-use Rattle.rules.specs.Laws.{IsSpare, SpareZero}
+use Rattle.invariants.specs.Invariants.{IsSpare, SpareZero}
 use Rattle.rules.proofs.Records.{length-part-most}
 use Rattle.rules.proofs.Connections.{keys-most}
 use Rattle.rules.proofs.Rows.{by-holder}
 use Rattle.rules.proofs.Fresh.{zeros, fresh-connection, fresh-row, fresh-sizes}
 use Rattle.rules.proofs.Answers.{refused-leaves-all, is-done, done-passed}
 use Rattle.rules.proofs.Decisions.{is-granted}
 use Rattle.rules.proofs.Plans.{Each, kindOf, every-plan, by-lease, by-test}
 use Rattle.rules.proofs.Marks.{by-caller}
 
 -- a byte that is zero stays so where a store puts zero there, or stores elsewhere
 zero-put : (xs : List ℕ) (at : ℕ) (vs : List ℕ) (i : ℕ) → byteAt xs i ≡ 0 → ((j : ℕ) → at + j ≡ i → byteAt vs j ≡ 0)

@@ -1,8 +1,8 @@
 -- `renew`: what is told of the row, and the row.
-use Rattle.leasing.proofs.Ways.{cookie-length, lease-renewed}
+use Rattle.granting.proofs.Ways.{cookie-length, lease-renewed}
 use borrow.Author.Needs.{needs}
-use Rattle.leasing.proofs.renew.Statement.{statement}
-use Rattle.leasing.proofs.renew.Tie as tie
+use Rattle.granting.proofs.renew.Statement.{statement}
+use Rattle.granting.proofs.renew.Tie as tie
 
 lease-end-requires : tie.Need-lease-end-requires
 lease-end-requires c κs = search needs

@@ -5,10 +5,10 @@ use mathlib.Core.List.{[]}
 use lib.ListN.{length}
 use Rattle.svsc.specs.Messages.{LeaseGranted, encode}
 use Rattle.answers.proofs.Writes.{sent-length, sent-buffer, written-short}
-use Rattle.leasing.proofs.Ways.{cookie-bytes, lease-ranges, lease-length, lease-told}
+use Rattle.granting.proofs.Ways.{cookie-bytes, lease-ranges, lease-length, lease-told}
 use borrow.Author.Needs.{needs}
-use Rattle.leasing.proofs.tell.Statement.{statement}
-use Rattle.leasing.proofs.tell.Tie as tie
+use Rattle.granting.proofs.tell.Statement.{statement}
+use Rattle.granting.proofs.tell.Tie as tie
 
 svsc-write-lease-granted-requires : tie.Need-svsc-write-lease-granted-requires
 svsc-write-lease-granted-requires c κs = search needs

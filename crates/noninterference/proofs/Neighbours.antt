@@ -11,23 +11,23 @@ use lib.Dec.{eqb, lit≤}
 use borrow.Author.Tests.{ne-eqb, eqb-false, not-true}
 use Rattle.octets.specs.Octets.{number, numberAt}
 use Rattle.octets.proofs.Tests.{both-left, both-right}
 use Rattle.rules.specs.Sizes.{rowCount, connectionBytes, leaseBytes, allowanceBytes}
 use Rattle.rules.specs.Searches.{anyFrom}
 use Rattle.rules.specs.Tables.{Tables, partnerOf, ownerOf, allowanceAt, idOf, liveWithId, bucketOf, clock}
 use Rattle.rules.specs.Leases.{idTaken, hasItsId, idElsewhere}
 use Rattle.rules.specs.Calls.{Call, timeOf, callerOf}
 use Rattle.rules.specs.Charges.{charged, cost, price, charge}
 use Rattle.rules.specs.Checks.{check}
 use Rattle.rules.specs.Step.{outcome, done, step}
 use Rattle.rules.specs.Bytes.{SameAt}
-use Rattle.rules.specs.Reading.{allowanceRecord, liveUnderOthers, SameToRead, SameToCaller}
+use Rattle.noninterference.specs.Reading.{allowanceRecord, liveUnderOthers, SameToRead, SameToCaller}
 use Rattle.rules.proofs.Records.{field-same}
 use Rattle.rules.proofs.Same.{same-put, records-to-bytes, bytes-to-records}
 use Rattle.rules.proofs.Searches.{any-passes, any-found, any-alike}
-use Rattle.rules.proofs.Reading.{by-both, InLeases, id-same, with-id-same}
-use Rattle.rules.proofs.SamePlans.{Alike, check-same, plan-same, sends-same}
+use Rattle.noninterference.proofs.Reading.{by-both, InLeases, id-same, with-id-same}
+use Rattle.noninterference.proofs.SamePlans.{Alike, check-same, plan-same, sends-same}
 use Rattle.rules.proofs.Answers.{answer-is-check}
 use Rattle.rules.proofs.Metered.{clock-takes-time}
 
 bucket-same : (al bl : List ℕ) (p : ℕ) → allowanceRecord al p ≡ allowanceRecord bl p → bucketOf al p ≡ bucketOf bl p
 unfolding bucketOf numberAt

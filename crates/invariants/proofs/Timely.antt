@@ -9,30 +9,30 @@ use lib.Dec.{eqb, ltb, lit≤}
 use lib.ListN.{length, replicate}
 use Rattle.octets.specs.Octets.{byteAt, number, numberFrom, part, numberAt}
 use Rattle.allowance.specs.Meter as meter
 use Rattle.rules.specs.Sizes.{connectionCount, connectionBytes, connectionsSize, timeBytes, timeLimit}
 use Rattle.rules.specs.Searches.{endRow}
 use Rattle.rules.specs.Tables.{Tables, partnerOf, connectionAt, unansweredAt, lastSentAt, keepaliveAt, awaiting, opened, peer, hasSession, setState, lastSent, keepaliveSent, clock, freshConnection, fresh}
 use Rattle.rules.specs.Leases.{decideLease, rowToExtend}
 use Rattle.rules.specs.Sessions.{EstablishDecision, refusedWith, establishedWith, decideEstablish, clear, await, establish}
 use Rattle.rules.specs.Keepalives.{ask, answered, stamp}
 use Rattle.rules.specs.Calls.{Call, timeOf, connectionOf}
 use Rattle.rules.specs.Charges.{received}
 use Rattle.rules.specs.Plans.{Plan, planOpen, planVersionAnswer, planLease, planExtension, planEstablish, planEnd, planData, planClose, planCall, plan}
 use Rattle.rules.specs.Step.{step, done}
 use Rattle.rules.specs.Runs.{after}
 use Rattle.rules.specs.Bytes.{ChangedOnly}
 use Rattle.rules.specs.Effects.{InSessionBytes}
-use Rattle.rules.specs.Laws.{InTime}
+use Rattle.invariants.specs.Invariants.{InTime}
 use Rattle.rules.proofs.Records.{part-part}
 use Rattle.rules.proofs.Same.{same-number}
 use Rattle.rules.proofs.Connections.{cleared-record, fresh-record, keys-most}
 use Rattle.rules.proofs.Changes.{changed-both, changed-state, changed-clear, changed-join, changed-end}
 use Rattle.rules.proofs.Fresh.{fresh-whole, fresh-connection, fresh-sizes}
 use Rattle.rules.proofs.Checks.{passed}
 use Rattle.rules.proofs.Answers.{refused-leaves-all, is-done, done-passed}
 use Rattle.rules.proofs.Metered.{clock-takes-time}
 use Rattle.rules.proofs.Plans.{Each, kindOf, every-plan, by-lease, by-test}
 use Rattle.rules.proofs.Marks.{by-caller, changed-answered, changed-ask, changed-stamp, answered-exactly, asked-unanswered, asked-at, stamp-none, stamp-exactly, length-stamp, length-answered}
 
 -- the records at a time, in a table of the right size
 record Timely (now : ℕ) (cs : List ℕ) : Type 0 where

@@ -3,10 +3,10 @@ use native.Mathlib.Omega.{arith}
 use mathlib.Core.Path.{refl}
 use Rattle.svsc.specs.Messages.{LeaseRefused, encode, wellFormed}
 use Rattle.answers.proofs.Writes.{sent-length, sent-buffer, written-short}
-use Rattle.leasing.proofs.Ways.{lease-refused}
+use Rattle.granting.proofs.Ways.{lease-refused}
 use borrow.Author.Needs.{needs}
-use Rattle.leasing.proofs.refuse.Statement.{statement}
-use Rattle.leasing.proofs.refuse.Tie as tie
+use Rattle.granting.proofs.refuse.Statement.{statement}
+use Rattle.granting.proofs.refuse.Tie as tie
 
 svsc-write-lease-refused-requires : tie.Need-svsc-write-lease-refused-requires
 svsc-write-lease-refused-requires c κs = search needs

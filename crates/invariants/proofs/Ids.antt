@@ -8,25 +8,25 @@ use lib.Dec.{eqb, ltb}
 use lib.ListN.{length}
 use Rattle.svsc.specs.Messages.{cookieBytes}
 use Rattle.allowance.specs.Meter as meter
 use Rattle.rules.specs.Sizes.{connectionCount, leasesSize}
 use Rattle.rules.specs.Searches.{endRow}
 use Rattle.rules.specs.Tables.{Tables, partnerOf, idOf, clock}
 use Rattle.rules.specs.Leases.{decideLease, leaseEnd, rowToExtend}
 use Rattle.rules.specs.Sessions.{EstablishDecision, refusedWith, establishedWith, decideEstablish}
 use Rattle.rules.specs.Calls.{Call, timeOf, connectionOf, Outcome}
 use Rattle.rules.specs.Charges.{received}
 use Rattle.rules.specs.Plans.{Plan, planOpen, planVersionAnswer, planLease, planExtension, planEstablish, planEnd, planData, planClose, plan}
 use Rattle.rules.specs.Step.{step, done}
 use Rattle.rules.specs.Runs.{after}
-use Rattle.rules.specs.Laws.{DistinctIds}
+use Rattle.invariants.specs.Invariants.{DistinctIds}
 use Rattle.rules.proofs.Records.{length-part-most}
 use Rattle.rules.proofs.Checks.{passed}
 use Rattle.rules.proofs.Answers.{refused-leaves-all, is-done, done-passed}
 use Rattle.rules.proofs.Decisions.{is-renewed, is-granted, is-extended}
 use Rattle.rules.proofs.Leases.{no-id, renewable-exactly}
-use Rattle.rules.proofs.Rows.{distinct-later, distinct-grant, distinct-renew, distinct-extend, distinct-release}
+use Rattle.invariants.proofs.DistinctIds.{distinct-later, distinct-grant, distinct-renew, distinct-extend, distinct-release}
 use Rattle.rules.proofs.Plans.{Each, kindOf, every-plan, by-lease, by-test}
 use Rattle.rules.proofs.Metered.{clock-takes-time}
 
 module _
     (tables : Tables) (now c : ℕ) (size : length (tables .leases) ≡ leasesSize) (c< : c < connectionCount)

@@ -1,10 +1,10 @@
 -- `grant`: the row, and what is told of it.
 use native.Mathlib.Omega.{arith}
 use Rattle.octets.proofs.Parts.{length-part}
-use Rattle.leasing.proofs.Ways.{lease-given}
+use Rattle.granting.proofs.Ways.{lease-given}
 use borrow.Author.Needs.{needs}
-use Rattle.leasing.proofs.grant.Statement.{statement}
-use Rattle.leasing.proofs.grant.Tie as tie
+use Rattle.granting.proofs.grant.Statement.{statement}
+use Rattle.granting.proofs.grant.Tie as tie
 
 lease-end-requires : tie.Need-lease-end-requires
 lease-end-requires c κs = search needs

@@ -11,19 +11,19 @@ use lib.ListN.{length, length-append, length-take, length-drop}
 use Rattle.octets.specs.Octets.{if_then_else_, part, numberAt}
 use Rattle.svsc.specs.Messages.{Message, VersionAnswer, LeaseRequest, LeaseRequestWithCookie, ExtensionRequest, EstablishRequest, SessionEnd, DataSend, Keepalive, ProtocolVersion, LeaseRefused, LeaseGranted, ExtensionRefused, ExtensionGranted, EstablishRefused, Established, EstablishNotification, SessionEndNotification, DataReceive, encode, lengthIs, when, readings, decode, typeOf}
 use Rattle.allowance.specs.Meter as meter
 use Rattle.rules.specs.Tables.{Tables, peer}
 use Rattle.rules.specs.Calls.{Call, message, Outcome}
 use Rattle.rules.specs.Sessions.{EstablishDecision, refusedWith, establishedWith, decideEstablish}
 use Rattle.rules.specs.Plans.{Plan, doNothing, planEstablish, planMessage, planCall, plan}
 use Rattle.rules.specs.Charges.{cost, price, callerLevel, charge}
 use Rattle.rules.specs.Checks.{wrongTime, wrongState, wrongLengths, notFromPeer, notPermitted, noSession, aboveLevel, firstEight, checks, check}
 use Rattle.rules.specs.Step.{outcome, done, step}
 use Rattle.rules.specs.Runs.{after}
 use Rattle.rules.specs.Bytes.{SameAt}
-use Rattle.rules.specs.Reading.{NotKeys, SameButKeys, SameTold}
+use Rattle.noninterference.specs.Reading.{NotKeys, SameButKeys, SameTold}
 use Rattle.rules.proofs.Messages.{decode-type}
 use Rattle.rules.proofs.Same.{same-refl, same-part, same-all}
-use Rattle.rules.proofs.SamePlans.{Alike, check-same, plan-same, sends-same}
+use Rattle.noninterference.proofs.SamePlans.{Alike, check-same, plan-same, sends-same}
 
 -- ---- what stands in a record
 
