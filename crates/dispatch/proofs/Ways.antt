@@ -8,13 +8,13 @@ use denote.Enum.Declared.{tagOf}
 use native.Mathlib.Omega.{arith}
 use lib.ListN.{length, drop}
 use Rattle.octets.specs.Octets.{part}
-use Rattle.svsc.specs.Messages.{Message, LeaseRequest, DataSend, decode}
+use Rattle.svsc.specs.Messages.{Message, DataSend, decode}
 use Rattle.svsc_decoded.specs.Reading.{Answer as ReadAnswer, answer, meaning}
 use Rattle.svsc_decoded.specs.declared.Decoded.{Decoded}
 use Rattle.svsc_decoded.specs.declared.Decoded.the-variants as case
 use Rattle.svsc_decoded.proofs.Decoded.{the-type}
 use Rattle.svsc_decoded.proofs.Cases.{in-arm, in-rest}
-use Rattle.rules.specs.Tables.{Tables, lent}
+use Rattle.rules.specs.Tables.{Tables}
 use Rattle.rules.specs.Leases.{decideLease}
 use Rattle.rules.specs.Plans.{Plan, planLease, planMessage, doNothing}
 use Rattle.rules.proofs.Messages.{decode-length, no-cookie, data-length}
@@ -55,13 +55,32 @@ sendable m relay d h t l =
     sym (ap (λ (a : ReadAnswer). a .message) (ap (λ (x : Decoded). meaning x m) (sym t) ∙ h)) in
     record { some = omega (arith, data-length m (drop 1 m) read); short = decode-length m (DataSend (drop 1 m)) read; room = l }
 
--- a request without a cookie is decided as one whose cookie has no bytes
-pub without-cookie : (cs ls al : List ℕ) (time c : ℕ) (m random reply relay : List ℕ) (d : Decoded) → meaning d m ≡ answer (decode m) → (x : Handled) → d ≡ case.LeaseRequest
-    → x ≡ applied (planLease (lent cs ls al) time c (decideLease cs ls time c random (part m 2 24))) reply relay
-    → x ≡ applied (planLease (lent cs ls al) time c (decideLease cs ls time c random [])) reply relay
-without-cookie cs ls al time c m random reply relay d h x t made =
-    let read : decode m ≡ some LeaseRequest = sym (ap (λ (a : ReadAnswer). a .message) (ap (λ (x : Decoded). meaning x m) (sym t) ∙ h)) in
-    made ∙ rw (no-cookie m read)
+-- the two cases of a lease request; one without a cookie is decided as one whose cookie has no bytes
+abbrev pub requests : List ℕ
+requests = 2 ∷ 3 ∷ []
+
+asks-lease : (tables : Tables) (time c p : ℕ) (random : List ℕ) (d : Decoded) (m : List ℕ) → meaning d m ≡ answer (decode m) → OneOf requests (tagOf the-type d)
+    → planLease tables time c (decideLease (tables .connections) (tables .leases) time c random (part m 2 24)) ≡ planMessage tables time c p random (meaning d m .message)
+unfolding planMessage
+asks-lease tables time c p random (case.Version major minor) m h o = absurd (miss requests 0 tt o)
+asks-lease tables time c p random (case.VersionAnswer ok) m h o = absurd (miss requests 1 tt o)
+asks-lease tables time c p random case.LeaseRequest m h o = rw (no-cookie m (sym (ap (λ (a : ReadAnswer). a .message) h)))
+asks-lease tables time c p random case.LeaseRequestWithCookie m h o = refl
+asks-lease tables time c p random case.LeaseRefused m h o = absurd (miss requests 4 tt o)
+asks-lease tables time c p random (case.LeaseGranted id expiration) m h o = absurd (miss requests 5 tt o)
+asks-lease tables time c p random case.ExtensionRequest m h o = absurd (miss requests 6 tt o)
+asks-lease tables time c p random case.ExtensionRefused m h o = absurd (miss requests 7 tt o)
+asks-lease tables time c p random (case.ExtensionGranted expiration) m h o = absurd (miss requests 8 tt o)
+asks-lease tables time c p random (case.EstablishRequest id) m h o = absurd (miss requests 9 tt o)
+asks-lease tables time c p random (case.EstablishRefused id status) m h o = absurd (miss requests 10 tt o)
+asks-lease tables time c p random (case.Established id) m h o = absurd (miss requests 11 tt o)
+asks-lease tables time c p random case.EstablishNotification m h o = absurd (miss requests 12 tt o)
+asks-lease tables time c p random case.SessionEnd m h o = absurd (miss requests 13 tt o)
+asks-lease tables time c p random case.SessionEndNotification m h o = absurd (miss requests 14 tt o)
+asks-lease tables time c p random case.DataSend m h o = absurd (miss requests 15 tt o)
+asks-lease tables time c p random case.DataReceive m h o = absurd (miss requests 16 tt o)
+asks-lease tables time c p random case.Keepalive m h o = absurd (miss requests 17 tt o)
+asks-lease tables time c p random case.Malformed m h o = absurd (miss requests 18 tt o)
 
 -- the ways out
 module _ (tables : Tables) (time c p : ℕ) (random m reply relay : List ℕ) (d : Decoded) (h : meaning d m ≡ answer (decode m)) (x : Handled) where
@@ -75,3 +94,10 @@ module _ (tables : Tables) (time c p : ℕ) (random m reply relay : List ℕ) (d
   nothing-asked rest made =
       in-rest (λ (o : Option Message). applied (planMessage tables time c p random o) reply relay) d m h x
       (made ∙ ap (λ (p : Plan). applied p reply relay) (asks-nothing tables time c p random d m rest))
+
+  pub lease-asked : OneOf requests (tagOf the-type d)
+      → x ≡ applied (planLease tables time c (decideLease (tables .connections) (tables .leases) time c random (part m 2 24))) reply relay
+      → x ≡ applied (planMessage tables time c p random (decode m)) reply relay
+  lease-asked either made =
+      in-rest (λ (o : Option Message). applied (planMessage tables time c p random o) reply relay) d m h x
+      (made ∙ ap (λ (q : Plan). applied q reply relay) (asks-lease tables time c p random d m h either))

@@ -31,17 +31,7 @@ pub fn handle(
     let d = svsc_reader::read(m);
     match d {
         Decoded::VersionAnswer { ok } => sessions::answer_version(connections, c, ok),
-        Decoded::LeaseRequest => leasing::lease(
-            connections,
-            leases,
-            allowances,
-            time,
-            c,
-            m,
-            random,
-            reply,
-        ),
-        Decoded::LeaseRequestWithCookie => leasing::lease(
+        Decoded::LeaseRequest | Decoded::LeaseRequestWithCookie => leasing::lease(
             connections,
             leases,
             allowances,
