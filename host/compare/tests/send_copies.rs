@@ -25,7 +25,7 @@ const START: u64 = 1_000;
 const REFILL_SECONDS: u64 = 4;
 
 fn lengths() -> impl Iterator<Item = usize> {
-    let around = [256, 1_024, 4_096, 16_384].into_iter().flat_map(|middle| middle - 1..=middle + 1);
+    let around = [256, 1_024, 2_048, 4_096, 16_384].into_iter().flat_map(|middle| middle - 1..=middle + 1);
     (1..=200).chain(around).chain([DATA_LIMIT - 1, DATA_LIMIT])
 }
 
