@@ -1,11 +1,18 @@
-//! A buffer that suits the engine's copy of long data.
+//! Memory that suits the engine's copy of long data.
 
 use std::ops::{Deref, DerefMut};
 
-/// The address of a send's data in the relay buffer should be a multiple of it, since the engine's copy stores so many
-/// bytes at a time. Elsewhere every fourth store crosses the end of a line of the cache, and a long send takes 1.2 to 1.4
-/// times as long; larger multiples gain nothing. `crondelith bench` shows it.
-pub const DATA_ALIGNMENT: usize = 16;
+/// The address of a send's data should be a multiple of it, in the message and in the relay buffer: a line of the cache.
+/// Elsewhere the copy's loads and stores cross the ends of lines, and a long send takes up to 1.5 times as long.
+/// `crondelith bench` shows it.
+pub const DATA_ALIGNMENT: usize = 64;
+
+/// Where in the memory something should begin whose data comes so many bytes later: less than [`DATA_ALIGNMENT`] from its
+/// start. The place is a hint: any other serves too, more slowly.
+pub fn aligned_start(memory: &[u8], data_at: usize) -> usize {
+    let aligned = memory.as_ptr().align_offset(DATA_ALIGNMENT).min(DATA_ALIGNMENT);
+    (aligned + data_at.next_multiple_of(DATA_ALIGNMENT) - data_at) % DATA_ALIGNMENT
+}
 
 /// A buffer to lend for what is relayed: its second byte, where a send's data begins, is aligned.
 #[derive(Debug)]
@@ -18,9 +25,7 @@ pub struct RelayBuffer {
 impl RelayBuffer {
     pub fn new(length: usize) -> Self {
         let memory = vec![0; length + DATA_ALIGNMENT].into_boxed_slice();
-        // The place is a hint: any other serves too, more slowly.
-        let aligned = memory.as_ptr().align_offset(DATA_ALIGNMENT).min(DATA_ALIGNMENT);
-        let start = (aligned + DATA_ALIGNMENT - 1) % DATA_ALIGNMENT;
+        let start = aligned_start(&memory, 1);
         Self { memory, start, length }
     }
 }
@@ -57,7 +62,20 @@ impl Eq for RelayBuffer {}
 
 #[cfg(test)]
 mod tests {
-    use super::{RelayBuffer, DATA_ALIGNMENT};
+    use super::{aligned_start, RelayBuffer, DATA_ALIGNMENT};
+
+    #[test]
+    fn what_begins_there_has_its_data_aligned() {
+        let memory = [0; 3 * DATA_ALIGNMENT];
+        for offset in 0..DATA_ALIGNMENT {
+            for data_at in [0, 1, 4, DATA_ALIGNMENT, DATA_ALIGNMENT + 1] {
+                let part = &memory[offset..];
+                let start = aligned_start(part, data_at);
+                assert!(start < DATA_ALIGNMENT);
+                assert_eq!((part.as_ptr() as usize + start + data_at) % DATA_ALIGNMENT, 0);
+            }
+        }
+    }
 
     #[test]
     fn the_second_byte_is_aligned_and_a_copy_holds_the_same() {

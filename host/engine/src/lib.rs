@@ -8,4 +8,4 @@ pub mod reasons;
 pub mod relay;
 pub mod svsc;
 
-pub use aligned::{RelayBuffer, DATA_ALIGNMENT};
+pub use aligned::{aligned_start, RelayBuffer, DATA_ALIGNMENT};

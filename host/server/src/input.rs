@@ -2,6 +2,7 @@
 
 use std::io::{self, Read};
 
+use engine::aligned_start;
 use frames::{Error, HEADER, MESSAGE_LIMIT};
 
 use crate::buffer_pool::BufferPool;
@@ -98,15 +99,49 @@ impl Input {
         self.release(spare);
     }
 
-    /// What is left of the last read moves to the front, so that there is room for a whole frame.
+    /// What is left of the last read moves to the front, so that there is room for a whole frame, and the data of the first
+    /// message, after the header and a type byte, is aligned for the engine.
     fn make_room(&mut self, spare: &mut BufferPool) {
         if self.buffer.is_empty() {
             self.buffer = spare.take();
         }
-        if self.start > 0 {
-            self.buffer.copy_within(self.start..self.end, 0);
-            self.end -= self.start;
-            self.start = 0;
+        let front = aligned_start(&self.buffer, HEADER + 1);
+        if self.start != front {
+            self.buffer.copy_within(self.start..self.end, front);
+            self.end = front + self.end - self.start;
+            self.start = front;
+        }
+    }
+}
+
+#[cfg(test)]
+mod tests {
+    use std::io::Read;
+
+    use engine::DATA_ALIGNMENT;
+
+    use super::{Input, CAPACITY};
+    use crate::buffer_pool::BufferPool;
+
+    /// Frames cut anywhere by the reads: the messages are the same, and whatever a read finds first has its data aligned.
+    #[test]
+    fn messages_are_whole_and_the_data_of_the_first_is_aligned() {
+        for at_a_time in [7, 5_000, 70_000] {
+            let messages = [1, 2, 65_534, 300, 65_534, 64].map(|length| vec![length as u8; length]);
+            let mut sent = Vec::new();
+            messages.iter().for_each(|message| frames::append(message, &mut sent).expect("a frame"));
+            let (mut input, mut spare) = (Input::default(), BufferPool::new(CAPACITY));
+            let (mut rest, mut taken) = (sent.as_slice(), Vec::new());
+            while taken.len() < messages.len() {
+                input.read_from(&mut rest.by_ref().take(at_a_time), &mut spare).expect("a read");
+                let address = input.message().map(|message| message.as_ptr() as usize);
+                assert!(address.is_none_or(|address| (address + 1) % DATA_ALIGNMENT == 0), "{at_a_time} at a time");
+                while let Some(message) = input.message() {
+                    taken.push(message.to_vec());
+                    input.take();
+                }
+            }
+            assert!(taken == messages, "{at_a_time} at a time: other messages");
         }
     }
 }

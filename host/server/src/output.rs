@@ -8,7 +8,7 @@
 
 use std::io::{self, Write};
 
-use engine::DATA_ALIGNMENT;
+use engine::{aligned_start, DATA_ALIGNMENT};
 use frames::{HEADER, MESSAGE_LIMIT};
 
 use crate::buffer_pool::BufferPool;
@@ -18,13 +18,7 @@ pub const BOUND: usize = 98_304;
 /// More can't wait, unless connections add to the output and leave, over and over.
 const EXCESS: usize = 2 * BOUND + MESSAGE_LIMIT;
 /// Room for the bound and a frame of the largest size. More is needed only if several fill an output at once.
-pub const CAPACITY: usize = BOUND + FRONT + HEADER + MESSAGE_LIMIT;
-/// Where the first frame of an empty output begins. Its message's data, after the header and a type byte, is then aligned as
-/// suits the engine's copy of long data, since a buffer itself is. And it is half a page from where an input has its first
-/// message's, since the allocator maps the buffers of both alike: a copy to an address that is, in its page, just behind
-/// what is read is slower, and with `rep movsb` many times slower.
-const FRONT: usize = PAGE / 2 + DATA_ALIGNMENT - HEADER - 1;
-const PAGE: usize = 4_096;
+pub const CAPACITY: usize = BOUND + DATA_ALIGNMENT + HEADER + MESSAGE_LIMIT;
 
 /// Frames that wait to be written, in their order.
 #[derive(Default)]
@@ -109,7 +103,8 @@ impl Output {
             if self.buffer.is_empty() {
                 self.buffer = spare.take();
             }
-            (self.start, self.end) = (FRONT, FRONT);
+            self.start = front(&self.buffer);
+            self.end = self.start;
         }
         if self.buffer.len() - self.end < length {
             self.move_to_front(length);
@@ -119,16 +114,23 @@ impl Output {
     /// Moves what waits to the front, of a larger buffer where this one can't hold so many bytes more.
     fn move_to_front(&mut self, length: usize) {
         let waiting = self.start..self.end;
-        self.end = FRONT + self.len();
-        self.start = FRONT;
-        if self.end + length <= self.buffer.len() {
-            self.buffer.copy_within(waiting, FRONT);
+        let needed = DATA_ALIGNMENT + waiting.len() + length;
+        if needed <= self.buffer.len() {
+            self.start = front(&self.buffer);
+            self.buffer.copy_within(waiting.clone(), self.start);
         } else {
-            let mut larger = vec![0; (self.end + length).next_multiple_of(CAPACITY)];
-            larger[self.start..self.end].copy_from_slice(&self.buffer[waiting]);
-            self.buffer = larger.into();
+            let mut larger = vec![0; needed.next_multiple_of(CAPACITY)].into_boxed_slice();
+            self.start = front(&larger);
+            larger[self.start..][..waiting.len()].copy_from_slice(&self.buffer[waiting.clone()]);
+            self.buffer = larger;
         }
+        self.end = self.start + waiting.len();
     }
+}
+
+/// Where the first frame begins: its message's data comes after the header and a type byte.
+fn front(buffer: &[u8]) -> usize {
+    aligned_start(buffer, HEADER + 1)
 }
 
 #[cfg(test)]
@@ -136,9 +138,8 @@ mod tests {
     use std::io::{self, Write};
 
     use engine::DATA_ALIGNMENT;
-    use frames::HEADER;
 
-    use super::{Output, CAPACITY, PAGE};
+    use super::{Output, CAPACITY};
     use crate::buffer_pool::BufferPool;
 
     /// Takes so many bytes at a time, and then no more for once.
@@ -187,6 +188,7 @@ mod tests {
         assert!(stream.taken == expected, "other bytes");
         assert!(output.buffer.is_empty(), "a drained output has no buffer");
     }
+
     #[test]
     fn the_data_of_the_first_message_is_aligned() {
         let (mut spare, mut output) = (BufferPool::new(CAPACITY), Output::default());
@@ -196,13 +198,5 @@ mod tests {
             output.commit(65_534);
             output.clear(&mut spare);
         }
-    }
-    /// In buffers that lie alike. An input has its first frame at the start.
-    #[test]
-    fn the_data_of_the_first_message_is_far_from_an_inputs_in_the_page() {
-        let (mut spare, mut output) = (BufferPool::new(CAPACITY), Output::default());
-        let room = output.room(65_534, &mut spare).as_ptr() as usize;
-        let distance = (room - output.buffer.as_ptr() as usize - HEADER) % PAGE;
-        assert!((1_024..=PAGE - 1_024).contains(&distance), "{distance} bytes");
     }
 }

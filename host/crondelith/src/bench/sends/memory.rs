@@ -16,13 +16,13 @@ pub struct Place {
     to: usize,
 }
 
-/// As a host should lend it. The message begins at a multiple of 64 here, as in a buffer of its own.
-pub const ON_A_LINE: Place = Place { text: "data to a multiple of 64", from: 1, to: 2_048 };
-pub const ON_A_STEP: Place = Place { text: "data to a multiple of 16 but not of 64", from: 1, to: 2_064 };
-pub const BESIDE_A_LINE: Place = Place { text: "data to one byte beyond a multiple of 64", from: 1, to: 2_049 };
+/// As a host should lend them.
+pub const ALIGNED: Place = Place { text: "data at multiples of 64", from: 64, to: 2_048 };
+pub const BUFFER_OFF: Place = Place { text: "data one byte beyond in the buffer", from: 64, to: 2_049 };
+pub const MESSAGE_OFF: Place = Place { text: "data one byte beyond in the message", from: 65, to: 2_048 };
 /// What a plain copy takes here depends on how the C library makes it.
 pub const NEAR: Place =
-    Place { text: "data to a multiple of 64, in its page 8 bytes beyond the message's", from: 56, to: 64 };
+    Place { text: "data 8 bytes further in the buffer's page than in the message's", from: 56, to: 64 };
 
 pub struct Memory {
     bytes: Vec<u8>,
@@ -60,12 +60,12 @@ impl Memory {
 
 #[cfg(test)]
 mod tests {
-    use super::{Memory, BESIDE_A_LINE, NEAR, ON_A_LINE, ON_A_STEP, PAGE};
+    use super::{Memory, ALIGNED, BUFFER_OFF, MESSAGE_OFF, NEAR, PAGE};
 
     #[test]
     fn the_data_begins_at_the_places_that_are_named() {
         for (place, from, to) in
-            [(ON_A_LINE, 1, 2_048), (ON_A_STEP, 1, 2_064), (BESIDE_A_LINE, 1, 2_049), (NEAR, 56, 64)]
+            [(ALIGNED, 64, 2_048), (BUFFER_OFF, 64, 2_049), (MESSAGE_OFF, 65, 2_048), (NEAR, 56, 64)]
         {
             for length in [2, 4_096, 65_534] {
                 let mut memory = Memory::new(&vec![7; length], length.max(64), &place).expect("memory");
