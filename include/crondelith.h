@@ -1,8 +1,8 @@
 /* The relay's engine: making a fresh relay, opening a connection, a message from one, closing one, and finding out whether one is dead.
  *
- * Link libcrondelith.a, which host/build-archives builds. Each function is total: any bytes, any numbers and any lengths get an answer.
- * The three tables are 4,096, 5,120 and 144 bytes; who calls keeps them between calls and writes nothing to them. Buffers must not
- * overlap. A slice is a pointer and a length; an empty one may have any pointer.
+ * Link libcrondelith.a, which host/build-archives builds; of a C library it needs memcpy and memmove. Each function is total: any bytes,
+ * any numbers and any lengths get an answer. The three tables are 4,096, 5,120 and 144 bytes; who calls keeps them between calls and
+ * writes nothing to them. Buffers must not overlap. A slice is a pointer and a length; an empty one may have any pointer.
  */
 #ifndef CRONDELITH_H
 #define CRONDELITH_H

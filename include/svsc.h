@@ -1,6 +1,6 @@
 /* The messages of the ScreenView server protocol (SVSC): a reader and a writer for each form.
  *
- * Link libsvsc.a, which host/build-archives builds.
+ * Link libsvsc.a, which host/build-archives builds; of a C library it needs memmove.
  * Each function is total: any bytes and any numbers get an answer.
  * Numbers in messages are most significant byte first. Buffers must not overlap.
  */

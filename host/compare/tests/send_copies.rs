@@ -26,7 +26,7 @@ const REFILL_SECONDS: u64 = 4;
 
 fn lengths() -> impl Iterator<Item = usize> {
     let around = [256, 1_024, 2_048, 4_096, 16_384].into_iter().flat_map(|middle| middle - 1..=middle + 1);
-    (1..=200).chain(around).chain([DATA_LIMIT - 1, DATA_LIMIT])
+    (0..=200).chain(around).chain([DATA_LIMIT - 1, DATA_LIMIT])
 }
 
 fn offsets() -> impl Iterator<Item = (usize, usize)> {
@@ -216,7 +216,7 @@ fn a_relay_buffer_begins_with_12_and_the_data() {
 #[test]
 fn a_buffer_as_long_as_a_short_message_is_too_short() {
     let (mut session, mut reached) = (Session::new(), Reached::default());
-    for length in 1..BUFFER - 1 {
+    for length in 0..BUFFER - 1 {
         send(&mut session, length, &[("as long as the message", 1 + length)], &mut reached);
     }
     reached.assert_all(&[("as long as the message", &[5])]);

@@ -82,11 +82,11 @@ mod tests {
         for length in [2, 64, 65_534] {
             let mut buffer = RelayBuffer::new(length);
             assert_eq!(buffer.len(), length);
-            assert_eq!(buffer[1..].as_ptr() as usize % DATA_ALIGNMENT, 0);
+            assert_eq!(buffer[1..].as_ptr() as usize % 64, 0);
             buffer[length - 1] = 7;
             let copy = buffer.clone();
             assert_eq!(copy, buffer);
-            assert_eq!(copy[1..].as_ptr() as usize % DATA_ALIGNMENT, 0);
+            assert_eq!(copy[1..].as_ptr() as usize % 64, 0);
         }
     }
 }

@@ -118,8 +118,6 @@ impl Input {
 mod tests {
     use std::io::Read;
 
-    use engine::DATA_ALIGNMENT;
-
     use super::{Input, CAPACITY};
     use crate::buffer_pool::BufferPool;
 
@@ -135,7 +133,7 @@ mod tests {
             while taken.len() < messages.len() {
                 input.read_from(&mut rest.by_ref().take(at_a_time), &mut spare).expect("a read");
                 let address = input.message().map(|message| message.as_ptr() as usize);
-                assert!(address.is_none_or(|address| (address + 1) % DATA_ALIGNMENT == 0), "{at_a_time} at a time");
+                assert!(address.is_none_or(|address| (address + 1) % 64 == 0), "{at_a_time} at a time");
                 while let Some(message) = input.message() {
                     taken.push(message.to_vec());
                     input.take();

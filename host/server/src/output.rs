@@ -137,8 +137,6 @@ fn front(buffer: &[u8]) -> usize {
 mod tests {
     use std::io::{self, Write};
 
-    use engine::DATA_ALIGNMENT;
-
     use super::{Output, CAPACITY};
     use crate::buffer_pool::BufferPool;
 
@@ -189,12 +187,35 @@ mod tests {
         assert!(output.buffer.is_empty(), "a drained output has no buffer");
     }
 
+    /// Nothing is taken until more waits than a buffer holds, and then so little that what waits is moved to the front.
+    #[test]
+    fn what_waits_outgrows_its_buffer_and_moves_to_its_front() {
+        let mut spare = BufferPool::new(CAPACITY);
+        let (mut output, mut expected) = (Output::default(), Vec::new());
+        let mut stream = Stream { taken: Vec::new(), at_a_time: 60_000, full: false };
+        let mut sizes = Vec::new();
+        for round in 0..40_u8 {
+            let message = (0..60_001).map(|place| (place % 249) as u8 ^ round).collect::<Vec<_>>();
+            frames::append(&message, &mut expected).expect("a frame");
+            output.append(&message, &mut spare);
+            sizes.push(output.buffer.len());
+            if round > 4 {
+                output.write_to(&mut stream, &mut spare).expect("a write");
+            }
+        }
+        assert!(sizes.last() > sizes.first() && sizes[20..].windows(2).all(|two| two[0] == two[1]), "{sizes:?}");
+        while !output.is_empty() {
+            output.write_to(&mut stream, &mut spare).expect("a write");
+        }
+        assert!(stream.taken == expected, "other bytes");
+    }
+
     #[test]
     fn the_data_of_the_first_message_is_aligned() {
         let (mut spare, mut output) = (BufferPool::new(CAPACITY), Output::default());
         for _ in 0..2 {
             let room = output.room(65_534, &mut spare);
-            assert_eq!(room[1..].as_ptr() as usize % DATA_ALIGNMENT, 0);
+            assert_eq!(room[1..].as_ptr() as usize % 64, 0);
             output.commit(65_534);
             output.clear(&mut spare);
         }
