@@ -210,6 +210,16 @@ mod tests {
         assert!(stream.taken == expected, "other bytes");
     }
 
+    /// Also where what waits and what comes fit the buffer to the byte.
+    #[test]
+    fn there_is_as_much_room_as_is_asked_for() {
+        for length in CAPACITY - 60_200..CAPACITY - 59_900 {
+            let (mut spare, mut output) = (BufferPool::new(CAPACITY), Output::default());
+            output.append(&[7; 60_000], &mut spare);
+            assert_eq!(output.room(length, &mut spare).len(), length);
+        }
+    }
+
     #[test]
     fn the_data_of_the_first_message_is_aligned() {
         let (mut spare, mut output) = (BufferPool::new(CAPACITY), Output::default());
