@@ -6,12 +6,12 @@ ghost use Rattle.octets.specs.Octets.{put};
 ghost use Rattle.svsc.specs.Copying.{copied, copyData};
 ghost use Rattle.data_copy.specs.Sizes.{pieceSize};
 
-// Data is copied in pieces of so many bytes, and what is left. Larger ones are no faster, and from some size on processors copy them in a
-// way that can be many times slower where data and buffer lie badly in memory.
+// Data is copied in pieces of so many bytes, and what is left. Larger ones are hardly faster, and from some size on C libraries copy by an
+// instruction that can be many times slower where data and buffer lie badly in memory.
 const PIECE: usize = 2048;
 
-// Copies a piece by way of an array. The compiler can't know that the buffer and the data lie apart, so it would make a loop of one copy. Of
-// the array it does know; so it makes of both copies one call of the machine's fastest, and no array.
+// Copies a piece by way of an array. The compiler can't know that the buffer and the data lie apart, so it would make a loop of one copy.
+// Of the array it does know: it makes of both copies one call of the C library's, and no array.
 fn copy_piece(buffer: &mut [u8], at: usize, piece: &[u8])
     requires { ⌜ (length (now piece) ≤ pieceSize) × (at + length (now piece) ≤ length (now buffer)) ⌝ }
     ensures { λ _. ⌜ now (buffer .exit) ≡ put (now (buffer .entry)) at (now (piece .entry)) ⌝ }

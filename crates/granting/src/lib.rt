@@ -1,5 +1,5 @@
-// What was decided on a lease request, carried out: a new lease, a renewal, a refusal. Sizes, numbers in range and the room in the buffer are
-// what the checks have shown, and no answer would serve where they fail.
+// What was decided on a lease request, carried out: a new lease, a renewal, a refusal. Sizes, numbers in range and the room in the buffer
+// are what the checks have shown, and no answer would serve where they fail.
 ghost use mathlib.Core.Path.{_≡_};
 ghost use mathlib.Core.List.{List};
 ghost use Prim.Native.Nat.{ℕ, _≤_, _<_};

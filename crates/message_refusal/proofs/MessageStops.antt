@@ -13,13 +13,13 @@ use Rattle.rules.specs.Sizes.{connectionCount, allowancesSize, nobody}
 use Rattle.rules.specs.Tables.{Tables, partnerOf, state, peer, inSession, hasSession, clock, bucketOf}
 use Rattle.rules.specs.Calls.{Call, message}
 use Rattle.rules.specs.Charges.{cost, price, callerLevel}
-use Rattle.rules.specs.Checks.{wrongSize, wrongTime, unknownConnection, wrongState, wrongLengths, notFromPeer, permits, notPermitted, needsSession, noSession, aboveLevel, pastLimit, firstEight as eightChecks, checks, firstApplying, precheck, check, found}
+use Rattle.rules.specs.Checks.{wrongSize, wrongTime, unknownConnection, wrongState, wrongLengths, notFromPeer, permits, notPermitted, needsSession, noSession, aboveLevel, pastLimit, firstEight, checks, firstApplying, precheck, check, found}
 use Rattle.rules.proofs.Checks.{passed as shown, from-peer}
 use Rattle.checks.proofs.MessageChecks.{type-known, peer-length}
 use Rattle.refusals.specs.Passed.{firstThree}
 use Rattle.refusals.proofs.Stops.{stopped, passed, first-passed, others-passed}
 use Rattle.message_refusal.specs.declared.Found.{Found}
-use Rattle.message_refusal.specs.Own.{foundOf, ownChecks, sessionCheck, firstEight, allNine}
+use Rattle.message_refusal.specs.Own.{foundOf, ownChecks, sessionCheck, foundByEight, foundByNine}
 
 -- ---- checks 4 to 7
 
@@ -89,24 +89,24 @@ module _ (tables : Tables) (time c : ℕ) (m random reply relay : List ℕ) wher
   four = wrongState (tables .connections) told ∷ wrongLengths told ∷ notFromPeer told ∷ notPermitted (tables .connections) told ∷ []
 
   -- whoever is stopped, by whichever check, has found nobody
-  stopped-found : (k : ℕ) → k ≡ precheck tables told → (k ≡ 0 → ⊥) → foundOf k nobody ≡ firstEight tables told
-  unfolding firstEight found
+  stopped-found : (k : ℕ) → k ≡ precheck tables told → (k ≡ 0 → ⊥) → foundOf k nobody ≡ foundByEight tables told
+  unfolding foundByEight found
   stopped-found k e h = rw (← e, ne-eqb k 0 h)
 
   module _ (k : ℕ) (e : k ≡ firstThree tables time c) where
-    pub three-found : (k ≡ 0 → ⊥) → foundOf k nobody ≡ firstEight tables told
-    unfolding firstThree precheck eightChecks wrongTime
+    pub three-found : (k ≡ 0 → ⊥) → foundOf k nobody ≡ foundByEight tables told
+    unfolding firstThree precheck firstEight wrongTime
     three-found h =
         stopped-found k
         (stopped 0 (wrongSize tables ∷ (pastLimit time || ltb time (clock (tables .allowances))) ∷ unknownConnection told ∷ []) _ k e h) h
 
     module _ (z : k ≡ 0) (j : ℕ) (f : j ≡ ownChecks (tables .connections) told) where
       after-three : precheck tables told ≡ firstApplying 4 (four ++ (noSession (tables .connections) told ∷ []))
-      unfolding firstThree precheck eightChecks wrongTime four
+      unfolding firstThree precheck firstEight wrongTime four
       after-three =
           passed 0 (wrongSize tables ∷ (pastLimit time || ltb time (clock (tables .allowances))) ∷ unknownConnection told ∷ []) _ k e z
 
-      pub own-found : (j ≡ 0 → ⊥) → foundOf j nobody ≡ firstEight tables told
+      pub own-found : (j ≡ 0 → ⊥) → foundOf j nobody ≡ foundByEight tables told
       unfolding ownChecks four
       own-found h = stopped-found j (stopped 3 four (noSession (tables .connections) told ∷ []) j f h ∙ sym after-three) h
 
@@ -125,8 +125,8 @@ module _ (tables : Tables) (time c : ℕ) (m random reply relay : List ℕ) wher
             by true = refl
             by false = refl
 
-        pub session-found : r ≡ firstEight tables told
-        unfolding sessionCheck firstEight found
+        pub session-found : r ≡ foundByEight tables told
+        unfolding sessionCheck foundByEight found
         session-found =
             hr ∙ rw (last-of-eight, type-known m sent-by-peer ∙ sym ht) (by (needsSession type) (hasSession (tables .connections) c))
           where
@@ -142,11 +142,11 @@ module _ (tables : Tables) (time c : ℕ) (m random reply relay : List ℕ) wher
 -- what eight passed checks show, of buffers of any content
 module _
     (tables : Tables) (time c : ℕ) (m random : List ℕ) (n l : ℕ) (r : Found)
-    (e : (reply relay : List ℕ) → length reply ≡ n → length relay ≡ l → r ≡ firstEight tables (message time c m random reply relay))
+    (e : (reply relay : List ℕ) → length reply ≡ n → length relay ≡ l → r ≡ foundByEight tables (message time c m random reply relay))
     (z : r .number ≡ 0)
   where
     eight-passed : precheck tables (message time c m random (replicate n 0) (replicate l 0)) ≡ 0
-    unfolding firstEight
+    unfolding foundByEight
     eight-passed = sym (ap (λ (r : Found). r .number) (e (replicate n 0) (replicate l 0) (length-replicate n 0) (length-replicate l 0))) ∙ z
 
     pub eight-length : length m ≤ longestMessage
@@ -159,42 +159,42 @@ module _
 
 -- ---- all nine
 
-module _ (tables : Tables) (call : Call) (r : Found) (e : r ≡ firstEight tables call) where
+module _ (tables : Tables) (call : Call) (r : Found) (e : r ≡ foundByEight tables call) where
   number-is : r .number ≡ precheck tables call
-  unfolding firstEight
+  unfolding foundByEight
   number-is = ap (λ (r : Found). r .number) e
 
   peer-is : r .peer ≡ found tables call
-  unfolding firstEight
+  unfolding foundByEight
   peer-is = ap (λ (r : Found). r .peer) e
 
-  pub eight-stop : (r .number ≡ 0 → ⊥) → r ≡ allNine tables call
-  unfolding firstEight allNine check checks precheck
+  pub eight-stop : (r .number ≡ 0 → ⊥) → r ≡ foundByNine tables call
+  unfolding foundByEight foundByNine check checks precheck
   eight-stop h =
       e ∙ ap (λ (k : ℕ). foundOf k (found tables call))
-      (sym number-is ∙ stopped 0 (eightChecks tables call) (aboveLevel tables call ∷ []) _ number-is h)
+      (sym number-is ∙ stopped 0 (firstEight tables call) (aboveLevel tables call ∷ []) _ number-is h)
 
   module _
       (z : r .number ≡ 0) (level price : ℕ) (hl : level ≡ callerLevel (tables .allowances) call) (hc : price ≡ cost call)
     where
       last-check : check tables call ≡ firstApplying 9 (ltb level price ∷ [])
-      unfolding check checks precheck eightChecks aboveLevel price
-      last-check = passed 0 (eightChecks tables call) (aboveLevel tables call ∷ []) _ number-is z ∙ rw (hl, hc)
+      unfolding check checks precheck firstEight aboveLevel price
+      last-check = passed 0 (firstEight tables call) (aboveLevel tables call ∷ []) _ number-is z ∙ rw (hl, hc)
 
-      pub above-level : level < price → foundOf 9 (r .peer) ≡ allNine tables call
-      unfolding allNine firstApplying
+      pub above-level : level < price → foundOf 9 (r .peer) ≡ foundByNine tables call
+      unfolding foundByNine firstApplying
       above-level l = rw (peer-is, last-check, lt-ltb level price l)
 
-      pub all-pass : price ≤ level → r ≡ allNine tables call
-      unfolding allNine firstEight firstApplying
+      pub all-pass : price ≤ level → r ≡ foundByNine tables call
+      unfolding foundByNine foundByEight firstApplying
       all-pass l = e ∙ rw (← number-is, z, last-check, le-ltb level price l)
 
 -- both parts of what is found
-module _ (tables : Tables) (call : Call) (r : Found) (e : r ≡ allNine tables call) where
+module _ (tables : Tables) (call : Call) (r : Found) (e : r ≡ foundByNine tables call) where
   pub nine-number : r .number ≡ check tables call
-  unfolding allNine
+  unfolding foundByNine
   nine-number = ap (λ (r : Found). r .number) e
 
   pub nine-peer : r .peer ≡ found tables call
-  unfolding allNine
+  unfolding foundByNine
   nine-peer = ap (λ (r : Found). r .peer) e

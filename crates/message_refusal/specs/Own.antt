@@ -24,8 +24,8 @@ sessionCheck cs c type =
     (if needsSession type && hasSession cs c then peer cs c else nobody)
 
 -- checks 1 to 8, and all nine, with the connection that is found
-unfoldable pub firstEight : Tables → Call → Found
-firstEight tables call = foundOf (precheck tables call) (found tables call)
+unfoldable pub foundByEight : Tables → Call → Found
+foundByEight tables call = foundOf (precheck tables call) (found tables call)
 
-unfoldable pub allNine : Tables → Call → Found
-allNine tables call = foundOf (check tables call) (found tables call)
+unfoldable pub foundByNine : Tables → Call → Found
+foundByNine tables call = foundOf (check tables call) (found tables call)

@@ -5,10 +5,10 @@ ghost use Prim.Native.Nat.{ℕ};
 ghost use lib.ListN.{length};
 ghost use Rattle.rules.specs.Tables.{lent};
 ghost use Rattle.rules.specs.Calls.{message};
-ghost use Rattle.message_refusal.specs.Own.{ownChecks, sessionCheck, firstEight, allNine};
+ghost use Rattle.message_refusal.specs.Own.{ownChecks, sessionCheck, foundByEight, foundByNine};
 
-// The number of the first check that applies, or 0; and the connection that check 8 found in session with the caller, or 255. A session is
-// looked up here and nowhere else in a message: whoever needs the other connection is handed this.
+// The number of the first check that applies, or 0; and the connection that check 8 found in session with the caller, or 255. For types 9
+// and 11 the session is looked up here and nowhere else: whoever needs the other connection is handed this.
 pub struct Found {
     pub number: u32,
     pub peer: u8,
@@ -78,7 +78,7 @@ fn first_eight(
     relay_length: usize,
 ) -> Found
     ensures { λ r. ⌜ ((reply relay : List ℕ) → length reply ≡ «reply_length» → length relay ≡ «relay_length»
-        → r ≡ firstEight (lent (now (connections .entry)) (now (leases .entry)) (now (allowances .entry)))
+        → r ≡ foundByEight (lent (now (connections .entry)) (now (leases .entry)) (now (allowances .entry)))
         (message time connection (now (m .entry)) (now (random .entry)) reply relay)) ⌝ }
 {
     let first = refusals::first_three(connections, leases, allowances, time, connection);
@@ -112,7 +112,7 @@ pub fn refusal(
     relay_length: usize,
 ) -> Found
     ensures { λ r. ⌜ ((reply relay : List ℕ) → length reply ≡ «reply_length» → length relay ≡ «relay_length»
-        → r ≡ allNine (lent (now (connections .entry)) (now (leases .entry)) (now (allowances .entry)))
+        → r ≡ foundByNine (lent (now (connections .entry)) (now (leases .entry)) (now (allowances .entry)))
         (message time connection (now (m .entry)) (now (random .entry)) reply relay)) ⌝ }
 {
     let eight = first_eight(

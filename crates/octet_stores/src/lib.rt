@@ -18,7 +18,7 @@ fn fitting(length: usize, at: usize, n: usize) -> usize
     n
 }
 
-// Copies s, which has room from a place on, to the bytes there.
+// Copies s to the bytes from a place on. The room is asked for, so that nothing but the copy is left to the loop.
 pub fn store(t: &mut [u8], at: usize, s: &[u8])
     requires { ⌜ length (now s) ≤ length (now t) - at ⌝ }
     ensures { λ _. ⌜ now (t .exit) ≡ put (now (t .entry)) at (now (s .entry)) ⌝ }

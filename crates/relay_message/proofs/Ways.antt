@@ -21,7 +21,7 @@ use Rattle.answers.specs.Applied.{handled, applied}
 use Rattle.answers.specs.Results.{result, shown}
 use Rattle.refusals.specs.Passed.{Payable}
 use Rattle.message_refusal.specs.declared.Found.{Found}
-use Rattle.message_refusal.specs.Own.{allNine}
+use Rattle.message_refusal.specs.Own.{foundByNine}
 use Rattle.message_refusal.proofs.MessageStops.{nine-number, nine-peer}
 use Rattle.dispatch.specs.Asked.{Admitted}
 use Rattle.rules.proofs.Answers.{answer-is-check, done-passed}
@@ -32,7 +32,7 @@ use Rattle.refusals.proofs.Stops.{call-sized, call-known, call-timely, right-le
 
 -- what passed checks show; f is what they found
 module _
-    (tables : Tables) (time c : ℕ) (m random reply relay : List ℕ) (f : Found) (all : f ≡ allNine tables (message time c m random reply relay)) (z : f .number ≡ 0)
+    (tables : Tables) (time c : ℕ) (m random reply relay : List ℕ) (f : Found) (all : f ≡ foundByNine tables (message time c m random reply relay)) (z : f .number ≡ 0)
   where
     abbrev sent : Call
     sent = message time c m random reply relay

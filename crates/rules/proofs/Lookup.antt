@@ -1,5 +1,5 @@
--- What check 8 finds, and that a message needs nothing else of the session: 02, Item 4, "a send looks its session up once, before copying".
--- Assumes nothing.
+-- What check 8 finds, and that messages of types 9 and 11 need nothing else of the session: 02, Item 4, "a send looks its session up once,
+-- before copying". Assumes nothing.
 use Prim.Native.Nat.{ℕ, _<_}
 use mathlib.Core.Path.{_≡_, refl, sym, _∙_}
 use mathlib.Core.Logic.{_≢_, ⊎-elim, _↔_}
@@ -17,17 +17,25 @@ use Rattle.svsc.specs.Copying.{copied, copyData}
 use Rattle.svsc.proofs.Copying.{copy-done}
 use Rattle.rules.specs.Sizes.{nobody}
 use Rattle.rules.specs.Tables.{Tables, peer, inSession, hasSession}
-use Rattle.rules.specs.Calls.{Call, message, Outcome}
+use Rattle.rules.specs.Calls.{Call, opening, message, closing, keepalive}
 use Rattle.rules.specs.Plans.{planMessage, planData, planCall}
 use Rattle.rules.specs.Checks.{needsSession, precheck, found}
 use Rattle.rules.specs.Step.{step}
-use Rattle.rules.specs.Effects.{DataRelayed}
+use Rattle.rules.specs.Effects.{IsMessage, DataRelayed}
 use Rattle.rules.specs.Laws.{Accepted}
 use Rattle.rules.proofs.Answers.{done-passed}
 use Rattle.rules.proofs.Checks.{passed, from-peer, relay-room, has-session}
 use Rattle.rules.proofs.Connections.{paired}
 use Rattle.rules.proofs.Messages.{decode-type, data-read, data-length}
 use Rattle.rules.proofs.MessageLaws.{data-to-paired}
+
+-- Of a call that is no message nobody is found.
+pub found-of-messages : (tables : Tables) (call : Call) → (IsMessage call → ⊥) → found tables call ≡ nobody
+unfolding found
+found-of-messages tables (opening now c reply) n = refl
+found-of-messages tables (message now c m random reply relay) n = absurd (n tt)
+found-of-messages tables (closing now c relay) n = refl
+found-of-messages tables (keepalive now c reply relay) n = refl
 
 module _ (tables : Tables) (now c : ℕ) (m random reply relay : List ℕ) where
   abbrev cs : List ℕ
@@ -98,7 +106,8 @@ module _ (tables : Tables) (now c : ℕ) (m random reply relay : List ℕ) where
     h : precheck tables sent ≡ 0
     h = done-passed tables sent e
 
-    -- Its data goes to the connection that was found, which is the one that is stamped.
+    -- Its data goes to the connection that was found, and of the times of others than the sender that one's alone may change: it is
+    -- stamped (Laws.marks-written).
     pub data-to-found : DataRelayed tables sent c (found tables sent) (step tables sent) (12 ∷ drop 1 m)
     data-to-found = rw (looked-up h (rw t)) (data-to-paired tables now c m random reply relay e t)
 

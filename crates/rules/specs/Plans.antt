@@ -116,8 +116,8 @@ planClose tables c =
       leases = release (tables .leases) c;
     }
 
--- A message of connection c, which names d as its peer. 02, Item 2: "a request's cookie is considered"; 01: "Type 13: nothing sent". What
--- peers do not send, check 6 refuses.
+-- A message of connection c; d is the connection that check 8 found, where the type needs a session. 02, Item 2: "a request's cookie is
+-- considered"; 01: "Type 13: nothing sent". What peers do not send, check 6 refuses.
 unfoldable pub planMessage : Tables → ℕ → ℕ → ℕ → List ℕ → Option Message → Plan
 planMessage tables now c d random (some (VersionAnswer ok)) = planVersionAnswer tables c ok
 planMessage tables now c d random (some LeaseRequest) =
@@ -162,7 +162,7 @@ planKeepalive tables now c =
     then replyOnly (ask (tables .connections) now c) (tables .leases) (encode Keepalive)
     else doNothing tables
 
--- what each call asks for
+-- What each call asks for. The peer that a record names is, where the type needs one, what check 8 found (Lookup.planned-with-found).
 unfoldable pub planCall : Tables → Call → Plan
 planCall tables (opening now c reply) = planOpen tables c
 planCall tables (message now c m random reply relay) = planMessage tables now c (peer (tables .connections) c) random (decode m)
