@@ -8,9 +8,8 @@ use lib.ListN.{length, replicate, length-replicate}
 use borrow.Author.Tests.{eq-eqb, ne-eqb, lt-ltb, le-ltb, not-false, not-true}
 use Rattle.octets.specs.Octets.{if_then_else_, byteAt}
 use Rattle.svsc.specs.Messages.{typeOf, fromPeer, longestMessage}
-use Rattle.allowance.specs.Bucket.{levelNow}
 use Rattle.rules.specs.Sizes.{connectionCount, allowancesSize, nobody}
-use Rattle.rules.specs.Tables.{Tables, partnerOf, state, peer, inSession, hasSession, clock, bucketOf}
+use Rattle.rules.specs.Tables.{Tables, state, peer, inSession, hasSession, clock}
 use Rattle.rules.specs.Calls.{Call, message}
 use Rattle.rules.specs.Charges.{cost, price, callerLevel}
 use Rattle.rules.specs.Checks.{wrongSize, wrongTime, unknownConnection, wrongState, wrongLengths, notFromPeer, permits, notPermitted, needsSession, noSession, aboveLevel, pastLimit, firstEight, checks, firstApplying, precheck, check, found}

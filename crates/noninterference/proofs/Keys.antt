@@ -1,15 +1,14 @@
 -- "a peer key to its owner only": who is told which of the random bytes, and that a stored session-id, peer-id or peer-key is told to nobody.
 -- Assumes nothing.
 use Prim.Native.Nat.{ℕ, zero, suc, _≤_, _<_}
-use mathlib.Core.Path.{_≡_, refl}
-use mathlib.Core.Logic.{_≢_, _⊎_, inl, inr}
+use mathlib.Core.Path.{_≡_, refl, _∙_}
+use mathlib.Core.Logic.{_≢_, _⊎_, inl, inr, ⊎-elim}
 use mathlib.Core.Bool.{Bool, true, false}
-use mathlib.Core.Option.{Option, none, some}
 use mathlib.Core.List.{List, [], _∷_}
 use native.Mathlib.Omega.{arith}
 use lib.ListN.{length, length-append, length-take, length-drop}
 use Rattle.octets.specs.Octets.{if_then_else_, part, numberAt}
-use Rattle.svsc.specs.Messages.{Message, VersionAnswer, LeaseRequest, LeaseRequestWithCookie, ExtensionRequest, EstablishRequest, SessionEnd, DataSend, Keepalive, ProtocolVersion, LeaseRefused, LeaseGranted, ExtensionRefused, ExtensionGranted, EstablishRefused, Established, EstablishNotification, SessionEndNotification, DataReceive, encode, lengthIs, when, readings, decode, typeOf}
+use Rattle.svsc.specs.Messages.{EstablishRequest, encode, lengthIs, when, readings, decode, typeOf}
 use Rattle.allowance.specs.Meter as meter
 use Rattle.rules.specs.Tables.{Tables, peer}
 use Rattle.rules.specs.Calls.{Call, message, Outcome}
@@ -22,6 +21,7 @@ use Rattle.rules.specs.Runs.{after}
 use Rattle.rules.specs.Bytes.{SameAt}
 use Rattle.noninterference.specs.Reading.{NotKeys, SameButKeys, SameTold}
 use Rattle.rules.proofs.Messages.{decode-type}
+use Rattle.rules.proofs.Plans.{plan-depends}
 use Rattle.rules.proofs.Same.{same-refl, same-part, same-all}
 use Rattle.noninterference.proofs.SamePlans.{Alike, check-same, plan-same, sends-same}
 
@@ -85,30 +85,13 @@ module _ (tables : Tables) (now c : ℕ) (m r s reply relay : List ℕ) (long : 
 
   -- Only a lease and an establish depend on the random bytes.
   pub random-unused : typeOf m ≢ 2 → typeOf m ≢ 6 → step tables first ≡ step tables second
-  unfolding done price cost charge planMessage encode
-  random-unused two six = by-plans (λ o. o) (unfold plan planCall in rw (go (decode m) (decode-type m)))
-    where
-      go : (o : Option Message) → ((x : Message) → o ≡ some x → typeOf m ≡ typeOf (encode x))
-          → planMessage tables now c (peer (tables .connections) c) r o ≡ planMessage tables now c (peer (tables .connections) c) s o
-      go (some (VersionAnswer ok)) t = refl
-      go (some LeaseRequest) t = absurd (two (t LeaseRequest refl))
-      go (some (LeaseRequestWithCookie cookie)) t = absurd (two (t (LeaseRequestWithCookie cookie) refl))
-      go (some (ExtensionRequest cookie)) t = refl
-      go (some (EstablishRequest id)) t = absurd (six (t (EstablishRequest id) refl))
-      go (some SessionEnd) t = refl
-      go (some (DataSend bytes)) t = refl
-      go (some Keepalive) t = refl
-      go (some (ProtocolVersion major minor)) t = refl
-      go (some LeaseRefused) t = refl
-      go (some (LeaseGranted id cookie expiration)) t = refl
-      go (some ExtensionRefused) t = refl
-      go (some (ExtensionGranted expiration)) t = refl
-      go (some (EstablishRefused id status)) t = refl
-      go (some (Established id session peerId key)) t = refl
-      go (some (EstablishNotification session peerId key)) t = refl
-      go (some SessionEndNotification) t = refl
-      go (some (DataReceive bytes)) t = refl
-      go none t = refl
+  unfolding done price cost charge
+  random-unused two six =
+      by-plans (λ o. o)
+      (unfold plan planCall in
+      rw
+      (plan-depends tables now c (peer (tables .connections) c) (peer (tables .connections) c) r s (decode m) (λ x e t. refl)
+      (λ x e t. absurd (⊎-elim (λ k. two (decode-type m x e ∙ k)) (λ k. six (decode-type m x e ∙ k)) t))))
 
   -- ---- an establish request
 

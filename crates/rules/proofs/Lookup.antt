@@ -1,24 +1,22 @@
 -- What check 8 finds, and that messages of types 9 and 11 need nothing else of the session: 02, Item 4, "a send looks its session up once,
 -- before copying". Assumes nothing.
-use Prim.Native.Nat.{ℕ, _<_}
+use Prim.Native.Nat.{ℕ}
 use mathlib.Core.Path.{_≡_, refl, sym, _∙_}
 use mathlib.Core.Logic.{_≢_, ⊎-elim, _↔_}
-use mathlib.Core.Bool.{Bool, true, false, _&&_, _||_, false≢true}
-use mathlib.Core.Option.{Option, none, some}
-use mathlib.Core.List.{List, [], _∷_}
+use mathlib.Core.Bool.{true, false, _&&_}
+use mathlib.Core.List.{List, _∷_}
 use native.Mathlib.Omega.{arith}
 use lib.Dec.{eqb}
 use lib.ListN.{drop}
 use borrow.Author.Tests.{eq-eqb, eqb-true}
-use Rattle.octets.specs.Octets.{if_then_else_}
 use Rattle.octets.proofs.Tests.{both-left, both-right, by-test}
-use Rattle.svsc.specs.Messages.{Message, ProtocolVersion, VersionAnswer, LeaseRequest, LeaseRequestWithCookie, LeaseRefused, LeaseGranted, ExtensionRequest, ExtensionRefused, ExtensionGranted, EstablishRequest, EstablishRefused, Established, EstablishNotification, SessionEnd, SessionEndNotification, DataSend, DataReceive, Keepalive, typeOf, encode, decode}
+use Rattle.svsc.specs.Messages.{typeOf, encode, decode}
 use Rattle.svsc.specs.Copying.{copied, copyData}
 use Rattle.svsc.proofs.Copying.{copy-done}
 use Rattle.rules.specs.Sizes.{nobody}
 use Rattle.rules.specs.Tables.{Tables, peer, inSession, hasSession}
 use Rattle.rules.specs.Calls.{Call, opening, message, closing, keepalive}
-use Rattle.rules.specs.Plans.{planMessage, planData, planCall}
+use Rattle.rules.specs.Plans.{planMessage, planCall}
 use Rattle.rules.specs.Checks.{needsSession, precheck, found}
 use Rattle.rules.specs.Step.{step}
 use Rattle.rules.specs.Effects.{IsMessage, DataRelayed}
@@ -27,6 +25,7 @@ use Rattle.rules.proofs.Answers.{done-passed}
 use Rattle.rules.proofs.Checks.{passed, from-peer, relay-room, has-session}
 use Rattle.rules.proofs.Connections.{paired}
 use Rattle.rules.proofs.Messages.{decode-type, data-read, data-length}
+use Rattle.rules.proofs.Plans.{plan-depends}
 use Rattle.rules.proofs.MessageLaws.{data-to-paired}
 
 -- Of a call that is no message nobody is found.
@@ -75,30 +74,10 @@ module _ (tables : Tables) (now c : ℕ) (m random reply relay : List ℕ) where
   -- What a message that passes asks for is decided with what was found: types 9 and 11 need no more of the session, and no other type
   -- needs that.
   pub planned-with-found : precheck tables sent ≡ 0 → planCall tables sent ≡ planMessage tables now c (found tables sent) random (decode m)
-  unfolding planCall planMessage encode
-  planned-with-found h = go (decode m) (λ x e t. looked-up h (rw (decode-type m x e) t))
-    where
-      go : (o : Option Message) → ((x : Message) → o ≡ some x → needsSession (typeOf (encode x)) ≡ true → found tables sent ≡ peer cs c)
-          → planMessage tables now c (peer cs c) random o ≡ planMessage tables now c (found tables sent) random o
-      go (some (VersionAnswer ok)) f = refl
-      go (some LeaseRequest) f = refl
-      go (some (LeaseRequestWithCookie cookie)) f = refl
-      go (some (ExtensionRequest cookie)) f = refl
-      go (some (EstablishRequest id)) f = refl
-      go (some SessionEnd) f = rw (f SessionEnd refl refl)
-      go (some (DataSend bytes)) f = rw (f (DataSend bytes) refl refl)
-      go (some Keepalive) f = refl
-      go (some (ProtocolVersion major minor)) f = refl
-      go (some LeaseRefused) f = refl
-      go (some (LeaseGranted id cookie expiration)) f = refl
-      go (some ExtensionRefused) f = refl
-      go (some (ExtensionGranted expiration)) f = refl
-      go (some (EstablishRefused id status)) f = refl
-      go (some (Established id session peerId key)) f = refl
-      go (some (EstablishNotification session peerId key)) f = refl
-      go (some SessionEndNotification) f = refl
-      go (some (DataReceive bytes)) f = refl
-      go none f = refl
+  unfolding planCall
+  planned-with-found h =
+      plan-depends tables now c (peer cs c) (found tables sent) random random (decode m)
+      (λ x e t. sym (looked-up h (rw (decode-type m x e) t))) (λ x e t. refl)
 
   -- ---- a send that is done
 

@@ -1,7 +1,7 @@
 -- What is shown of each kind of plan holds of what every call that passed the first eight checks asks for. Assumes nothing.
 use Prim.Native.Nat.{ℕ, suc}
 use mathlib.Core.Path.{_≡_, refl}
-use mathlib.Core.Logic.{⊎-elim}
+use mathlib.Core.Logic.{_⊎_, inl, inr, ⊎-elim}
 use mathlib.Core.Bool.{Bool, true, false, _||_}
 use mathlib.Core.Option.{Option, none, some}
 use mathlib.Core.List.{List, []}
@@ -18,7 +18,7 @@ use Rattle.rules.specs.Keepalives.{isDead, isDue, ask}
 use Rattle.rules.specs.Calls.{Call, opening, message, closing, keepalive, timeOf, connectionOf}
 use Rattle.rules.specs.Charges.{received}
 use Rattle.rules.specs.Plans.{Plan, replyOnly, doNothing, refuseLease, planOpen, planVersionAnswer, planLease, planExtension, planEstablish, planEnd, planData, planClose, planMessage, disconnecting, planKeepalive, planCall}
-use Rattle.rules.specs.Checks.{permits, precheck}
+use Rattle.rules.specs.Checks.{permits, needsSession, precheck}
 use Rattle.rules.proofs.Checks.{random-length, has-session, is-permitted, open-permits}
 use Rattle.rules.proofs.Messages.{decode-type, data-length, lease-read, no-cookie}
 
@@ -99,6 +99,32 @@ every-plan P tables (keepalive now c reply relay) h each =
     by-test P (isDead (tables .connections) now c)
     (λ t. each .dead-plan refl)
     (λ t. by-test P (isDue (tables .connections) now c) (λ u. each .ask-plan) (λ u. each .no-plan))
+
+-- What a message asks for depends on the other connection for types 9 and 11 alone, and on the random bytes for types 2 and 6 alone.
+pub plan-depends : (tables : Tables) (now c d e : ℕ) (r s : List ℕ) (o : Option Message)
+    → ((x : Message) → o ≡ some x → needsSession (typeOf (encode x)) ≡ true → d ≡ e)
+    → ((x : Message) → o ≡ some x → (typeOf (encode x) ≡ 2) ⊎ (typeOf (encode x) ≡ 6) → r ≡ s)
+    → planMessage tables now c d r o ≡ planMessage tables now c e s o
+unfolding planMessage encode
+plan-depends tables now c d e r s (some (VersionAnswer ok)) f g = refl
+plan-depends tables now c d e r s (some LeaseRequest) f g = rw (g LeaseRequest refl (inl refl))
+plan-depends tables now c d e r s (some (LeaseRequestWithCookie cookie)) f g = rw (g (LeaseRequestWithCookie cookie) refl (inl refl))
+plan-depends tables now c d e r s (some (ExtensionRequest cookie)) f g = refl
+plan-depends tables now c d e r s (some (EstablishRequest id)) f g = rw (g (EstablishRequest id) refl (inr refl))
+plan-depends tables now c d e r s (some SessionEnd) f g = rw (f SessionEnd refl refl)
+plan-depends tables now c d e r s (some (DataSend bytes)) f g = rw (f (DataSend bytes) refl refl)
+plan-depends tables now c d e r s (some Keepalive) f g = refl
+plan-depends tables now c d e r s (some (ProtocolVersion major minor)) f g = refl
+plan-depends tables now c d e r s (some LeaseRefused) f g = refl
+plan-depends tables now c d e r s (some (LeaseGranted id cookie expiration)) f g = refl
+plan-depends tables now c d e r s (some ExtensionRefused) f g = refl
+plan-depends tables now c d e r s (some (ExtensionGranted expiration)) f g = refl
+plan-depends tables now c d e r s (some (EstablishRefused id status)) f g = refl
+plan-depends tables now c d e r s (some (Established id session peerId key)) f g = refl
+plan-depends tables now c d e r s (some (EstablishNotification session peerId key)) f g = refl
+plan-depends tables now c d e r s (some SessionEndNotification) f g = refl
+plan-depends tables now c d e r s (some (DataReceive bytes)) f g = refl
+plan-depends tables now c d e r s none f g = refl
 
 -- A message of type 2 asks for a lease, with the cookie behind its first two bytes: no bytes, if it has none.
 pub lease-plan : (tables : Tables) (now c d : ℕ) (m random : List ℕ) → fromPeer m ≡ true → typeOf m ≡ 2

@@ -89,6 +89,12 @@ impl Reached {
         self.offsets.insert((room, from.as_ptr() as usize % STEP, to.as_ptr() as usize % STEP));
     }
 
+    /// Asserts that every room got these answers, if enough and if not.
+    fn assert_rooms(&self, enough: u32, short: u32) {
+        let answers = rooms(2).map(|(name, room)| (name, [if room < 2 { short } else { enough }]));
+        self.assert_all(&answers.each_ref().map(|(name, numbers)| (*name, &numbers[..])));
+    }
+
     /// Asserts that each room got these answers, and at every offset.
     fn assert_all(&self, answers: &[(&str, &[u32])]) {
         println!("{}", self.answers);
@@ -185,9 +191,8 @@ fn send(session: &mut Session, length: usize, rooms: &[(&'static str, usize)], r
     }
 }
 
-/// Rooms for a whole message of a send.
-fn relay_rooms(length: usize) -> [(&'static str, usize); 5] {
-    let enough = BUFFER.max(1 + length);
+/// The rooms that are tried where so many bytes are just enough: enough in the first three.
+fn rooms(enough: usize) -> [(&'static str, usize); 5] {
     [
         ("just enough", enough),
         ("one more", enough + 1),
@@ -201,15 +206,9 @@ fn relay_rooms(length: usize) -> [(&'static str, usize); 5] {
 fn a_relay_buffer_begins_with_12_and_the_data() {
     let (mut session, mut reached) = (Session::new(), Reached::default());
     for length in lengths() {
-        send(&mut session, length, &relay_rooms(length), &mut reached);
+        send(&mut session, length, &rooms(BUFFER.max(1 + length)), &mut reached);
     }
-    reached.assert_all(&[
-        ("just enough", &[0]),
-        ("one more", &[0]),
-        ("forty more", &[0]),
-        ("one too few", &[5]),
-        ("none", &[5]),
-    ]);
+    reached.assert_rooms(0, 5);
 }
 
 /// Of a message of up to 62 bytes, since every relay buffer has to have 64.
@@ -225,14 +224,8 @@ fn a_buffer_as_long_as_a_short_message_is_too_short() {
 #[test]
 fn a_message_too_long_is_refused_after_its_room() {
     let (mut session, mut reached) = (Session::new(), Reached::default());
-    send(&mut session, DATA_LIMIT + 1, &relay_rooms(DATA_LIMIT + 1), &mut reached);
-    reached.assert_all(&[
-        ("just enough", &[6]),
-        ("one more", &[6]),
-        ("forty more", &[6]),
-        ("one too few", &[5]),
-        ("none", &[5]),
-    ]);
+    send(&mut session, DATA_LIMIT + 1, &rooms(DATA_LIMIT + 2), &mut reached);
+    reached.assert_rooms(6, 5);
 }
 
 /// What the writer answers to so many bytes of data, given a buffer of this length.
@@ -250,19 +243,11 @@ fn expected_written(length: usize, room: usize) -> Written {
 fn write(length: usize, reached: &mut Reached) {
     let data = data(length);
     let received = [&[RECEIVE], &data[..]].concat();
-    let enough = 1 + length;
-    let rooms = [
-        ("just enough", enough),
-        ("one more", enough + 1),
-        ("forty more", enough + 40),
-        ("one too few", enough - 1),
-        ("none", 0),
-    ];
-    let (mut from, mut to) = (Memory::new(length), Memory::new(enough + 40));
+    let (mut from, mut to) = (Memory::new(length), Memory::new(1 + length + 40));
     for (from_offset, to_offset) in offsets() {
         from.clear();
         from.lend(from_offset, length).copy_from_slice(&data);
-        for (name, room) in rooms {
+        for (name, room) in rooms(1 + length) {
             to.clear();
             let (bytes, buffer) = (from.lend(from_offset, length), to.lend(to_offset, room));
             let answer = svsc::write_data_receive(buffer, bytes);
@@ -280,19 +265,12 @@ fn write(length: usize, reached: &mut Reached) {
 fn the_writer_writes_12_and_the_data() {
     let mut reached = Reached::default();
     lengths().for_each(|length| write(length, &mut reached));
-    reached.assert_all(&[
-        ("just enough", &[0]),
-        ("one more", &[0]),
-        ("forty more", &[0]),
-        ("one too few", &[5]),
-        ("none", &[5]),
-    ]);
+    reached.assert_rooms(0, 5);
 }
 
 #[test]
 fn the_writer_refuses_a_byte_too_many_before_its_room() {
     let mut reached = Reached::default();
     write(DATA_LIMIT + 1, &mut reached);
-    let rooms = ["just enough", "one more", "forty more", "one too few", "none"];
-    reached.assert_all(&rooms.map(|room| (room, &[6][..])));
+    reached.assert_rooms(6, 6);
 }

@@ -1,6 +1,6 @@
 -- `svsc_write_data_receive`: its range is that of the message; then the copying, done or too short.
 use mathlib.Core.Path.{refl}
-use Rattle.svsc.specs.Messages.{DataReceive, wellFormed, encode}
+use Rattle.svsc.specs.Messages.{DataReceive, wellFormed}
 use Rattle.svsc.proofs.Writing.{out-of-range, writes}
 use Rattle.svsc.proofs.Copying.{written-none, written-all}
 use borrow.Author.Needs.{needs}
