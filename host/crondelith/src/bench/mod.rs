@@ -25,7 +25,7 @@ the other side, which is the second implementation unless the row says otherwise
 below 1 the engine is faster. Both sides are measured in turn, batch by batch, and the median batch
 counts. Every answer is checked, and after every batch the bytes that both sides left. A plain copy
 is the C library's, of a send's data from the same message to the same buffer; where it begins in
-the buffer is told, since that counts. The last row is the whole relay over TCP on this machine,
+both is told, since that counts. The last row is the whole relay over TCP on this machine,
 beside a loop that copies from one socket to another; its clock jumps, so that nobody waits for an
 allowance.
 
