@@ -31,6 +31,8 @@ extern "C" {
  * A keepalive has 1 to 5, as a close has, but with both buffers at least CRONDELITH_BUFFER long. Making a fresh relay has 1 and the first
  * half of 2 alone. Times are whole seconds.
  * A refused call changes no byte and answers 0, 0, CRONDELITH_NOBODY, 0.
+ * A done open, or a done message other than SessionEnd, costs 32, the bytes of the message and the bytes that it answers, `reply` and `relay`
+ * together: 45 an open, 131,100 the longest send. Anything else is free. 9 compares with what the call would cost if it were done.
  */
 typedef struct {
     uint32_t number;

@@ -105,28 +105,43 @@ static void check_session(void) {
     CHECK(memcmp(relay, "\14ho", 3) == 0);
 }
 
-/* The level is full at 110, and the longest send costs 65,566: three leave 65,446. Partner 2 has its own allowance. */
+/* The record of partner 1: level and moment. */
+static void check_level(const char *bytes) {
+    CHECK(memcmp(allowances + 16, bytes, 16) == 0);
+}
+
+/* The level is full at 110, and the longest send costs 131,100, what is received and what is sent on: one leaves 131,044. A send of
+ * 65,506 bytes costs just that, so that at 112 the longest is refused, and at 113 leaves 65,508. Partner 2 has its own allowance. */
 static void check_allowance(void) {
     memset(longest, 11, sizeof longest);
     check_answer(send(110, 8, longest, sizeof longest), 0, 0, 65534, 9, 0);
-    check_answer(send(110, 9, longest, sizeof longest), 0, 0, 65534, 8, 0);
-    check_answer(send(110, 8, longest, sizeof longest), 0, 0, 65534, 9, 0);
     CHECK(relay[0] == 12 && memcmp(relay + 1, longest + 1, sizeof longest - 1) == 0);
+    check_level("\0\0\0\0\0\1\377\344" "\0\0\0\0\0\0\0\156");
     check_refused(send(110, 9, longest, sizeof longest), 9);
+    check_refused(send(110, 9, longest, 65507), 9);
+    check_answer(send(110, 9, longest, 65506), 0, 0, 65506, 8, 0);
+    check_level("\0\0\0\0\0\0\0\0" "\0\0\0\0\0\0\0\156");
+    check_refused(send(110, 8, "\15", 1), 9);
     check_open(110, 16);
     check_answer(send(110, 16, "\1\0", 2), 0, 0, 0, CRONDELITH_NOBODY, 1);
+    check_refused(send(112, 9, longest, sizeof longest), 9);
+    check_answer(send(113, 9, longest, sizeof longest), 0, 0, 65534, 8, 0);
+    check_level("\0\0\0\0\0\0\377\344" "\0\0\0\0\0\0\0\161");
 }
 
-/* Connection 8 ends the session, both meet again, and 9 closes in session, then 8. */
+/* Connection 8 ends the session, both meet again, which costs 140, and 9 closes in session, then 8. */
 static void check_leave(void) {
-    check_answer(send(110, 8, "\11", 1), 0, 0, 1, 9, 0);
+    check_answer(send(113, 8, "\11", 1), 0, 0, 1, 9, 0);
     CHECK(relay[0] == 10);
-    check_establish(111);
+    check_level("\0\0\0\0\0\0\377\344" "\0\0\0\0\0\0\0\161");
+    check_establish(113);
+    check_level("\0\0\0\0\0\0\377\130" "\0\0\0\0\0\0\0\161");
     relay[0] = 0;
-    check_answer(crondelith_close(TABLES, 112, 9, relay, CRONDELITH_BUFFER), 0, 0, 1, 8, 0);
+    check_answer(crondelith_close(TABLES, 114, 9, relay, CRONDELITH_BUFFER), 0, 0, 1, 8, 0);
     CHECK(relay[0] == 10);
-    check_answer(crondelith_close(TABLES, 112, 8, relay, CRONDELITH_BUFFER), 0, 0, 0, CRONDELITH_NOBODY, 0);
-    check_refused(crondelith_close(TABLES, 112, 8, relay, CRONDELITH_BUFFER), 4);
+    check_answer(crondelith_close(TABLES, 114, 8, relay, CRONDELITH_BUFFER), 0, 0, 0, CRONDELITH_NOBODY, 0);
+    check_refused(crondelith_close(TABLES, 114, 8, relay, CRONDELITH_BUFFER), 4);
+    check_level("\0\0\0\0\0\0\377\130" "\0\0\0\0\0\0\0\161");
 }
 
 /* The lease table must be what is expected once the row has these bytes. */
@@ -249,7 +264,7 @@ static void check_alive(void) {
     check_asked(9150, 12);
     check_record(12, "\2\377\1\0" "\0\0\0\43\276" "\0\0\0\43\276" "\0\0");
     /* The message at 9121 was the last to be charged: 33 of 262,144. */
-    CHECK(memcmp(allowances + 16, "\0\0\0\0\0\3\377\337" "\0\0\0\0\0\0\43\241", 16) == 0);
+    check_level("\0\0\0\0\0\3\377\337" "\0\0\0\0\0\0\43\241");
 }
 
 /* An awaiting connection is found like an open one: it is sent nothing after its version message at 9150. */

@@ -108,22 +108,24 @@ static crondelith_reason explain_open(uint64_t now) {
     return crondelith_explain_open(TABLES, now, 14, CRONDELITH_BUFFER);
 }
 
-/* An open costs 32. */
+/* An open costs 45: 32, and the version message of 13 bytes. */
 static void check_opens(void) {
     make_scene();
-    check_reason(explain_open(100), 0, 0, 0, 1, 262112);
-    check_reason(crondelith_explain_open(TABLES, 100, 14, UINT64_MAX), 0, 0, 0, 1, 262112);
+    check_reason(explain_open(100), 0, 0, 0, 1, 262099);
+    check_reason(crondelith_explain_open(TABLES, 100, 14, UINT64_MAX), 0, 0, 0, 1, 262099);
     check_stopped(crondelith_explain_open(TABLES_OF(4096, 5119, 144), 100, 14, 64), 1);
     check_stopped(explain_open(UINT64_C(1) << 40), 2);
     check_stopped(explain_open(99), 2);
     check_stopped(crondelith_explain_open(TABLES, 100, UINT64_MAX, 64), 3);
     check_stopped(crondelith_explain_open(TABLES, 100, 13, 64), 4);
     check_stopped(crondelith_explain_open(TABLES, 100, 14, 63), 5);
-    set_level(32, 100);
+    set_level(45, 100);
     check_reason(explain_open(100), 0, 0, 0, 1, 0);
+    set_level(44, 100);
+    check_reason(explain_open(100), 9, 0, 0, 1, -1);
     set_level(20, 100);
-    check_reason(explain_open(100), 9, 0, 0, 1, -12);
-    check_reason(explain_open(101), 0, 0, 0, 1, 65524);
+    check_reason(explain_open(100), 9, 0, 0, 1, -25);
+    check_reason(explain_open(101), 0, 0, 0, 1, 65511);
 }
 
 /* A close is free. */
@@ -160,7 +162,7 @@ static void check_keepalives(void) {
     check_reason(crondelith_explain_keepalive(TABLES, 100, 13, UINT64_MAX, UINT64_MAX), 0, 0, 0, 0, 0);
 }
 
-/* A message costs 32 and its length, but SessionEnd (type 9) nothing. */
+/* A message costs 32, its length and what is sent, data its length twice, but SessionEnd (type 9) nothing. */
 static void check_messages(void) {
     make_scene();
     before = tables;
@@ -180,38 +182,62 @@ static void check_messages(void) {
     check_reason(explain(13, "\1\0", 2), 0, 0, 0, 1, 262110);
     check_reason(explain_keepalive(100, 80, UINT64_MAX, UINT64_MAX), 0, 0, 0, 1, 262111);
     memset(longest, 11, sizeof longest);
-    set_level(29, 99);
+    set_level(27, 98);
     check_reason(explain(8, longest, sizeof longest), 9, 0, 0, 1, -1);
-    set_level(30, 99);
+    set_level(28, 98);
     check_reason(explain(8, longest, sizeof longest), 0, 0, 0, 1, 0);
+    set_level(33, 100);
+    check_reason(explain(8, "\13", 1), 9, 0, 0, 1, -1);
+    check_reason(explain(8, "\15", 1), 0, 0, 0, 1, 0);
+    check_reason(explain(13, "\1\1", 2), 9, 0, 0, 1, -1);
+}
+
+/* An extension costs 59, done 67. */
+static void check_extensions(void) {
+    make_scene();
+    check_reason(explain(9, "\4" OF_9, 25), 0, 0, 0, 1, 262077);
+    check_reason(explain(10, "\4" OF_9, 25), 0, 0, 0, 1, 262085);
+    set_level(66, 100);
+    check_reason(explain(9, "\4" OF_9, 25), 9, 0, 0, 1, -1);
+    check_reason(explain(10, "\4" OF_9, 25), 0, 0, 0, 1, 7);
 }
 
 /* Connection 10 holds a live row; to 11 a row is left, but the drawn cookie is a live row's; with another one, id 2 is free. What the
- * request costs is all that its cookie changes. */
-static void check_leases(const char *request, size_t length, int64_t headroom) {
+ * request costs is all that its cookie changes: so much, and 36 more where it is granted, since that reply is longer. With just as much
+ * as refusing costs, 11 is refused its lease if id 2 is live under another partner, and else can't pay for it. */
+static void check_leases(const char *request, size_t length, int64_t refused) {
+    int64_t headroom = 262144 - refused;
     make_scene();
     check_reason(explain(10, request, length), 0, 1, 1, 1, headroom);
     check_reason(explain(11, request, length), 0, 1, 3, 1, headroom);
     set_lease(16, 1, 10, "another cookie..........");
-    check_reason(explain(11, request, length), 0, 1, 0, 1, headroom);
+    check_reason(explain(11, request, length), 0, 1, 0, 1, headroom - 36);
+    set_level((uint64_t)refused, 100);
+    check_reason(explain(11, request, length), 9, 0, 0, 1, -36);
     set_lease(32, 2, 16, "of partner 2............");
+    check_reason(explain(11, request, length), 0, 1, 4, 1, 0);
+    set_level(262144, 100);
     check_reason(explain(11, request, length), 0, 1, 4, 1, headroom);
     for (int row = 19; row < 32; row++) set_lease(row, 6, 255, COOKIE);
     check_reason(explain(11, request, length), 0, 1, 2, 1, headroom);
     check_reason(explain(10, request, length), 0, 1, 1, 1, headroom);
-    set_level(10, 100); /* 262,134 less */
-    check_reason(explain(10, request, length), 9, 0, 0, 1, headroom - 262134);
+    set_level(10, 100);
+    check_reason(explain(10, request, length), 9, 0, 0, 1, 10 - refused);
 }
 
+/* An establish costs 43, done 140. */
 static void check_establishes(void) {
     make_scene();
-    check_reason(explain(11, "\6\0\0\0\1", 5), 0, 2, 0, 1, 262107);
-    check_reason(explain(11, "\6\0\0\0\5", 5), 0, 2, 1, 1, 262107);
-    check_reason(explain(11, "\6\0\0\0\4", 5), 0, 2, 2, 1, 262107);
-    check_reason(explain(11, "\6\0\0\0\3", 5), 0, 2, 3, 1, 262107);
-    check_reason(explain(9, "\6\0\0\0\3", 5), 0, 2, 4, 1, 262107);
-    check_reason(explain(10, "\6\0\0\0\1", 5), 0, 2, 5, 1, 262107);
-    set_level(36, 100);
+    check_reason(explain(11, "\6\0\0\0\1", 5), 0, 2, 0, 1, 262004);
+    check_reason(explain(11, "\6\0\0\0\5", 5), 0, 2, 1, 1, 262101);
+    check_reason(explain(11, "\6\0\0\0\4", 5), 0, 2, 2, 1, 262101);
+    check_reason(explain(11, "\6\0\0\0\3", 5), 0, 2, 3, 1, 262101);
+    check_reason(explain(9, "\6\0\0\0\3", 5), 0, 2, 4, 1, 262101);
+    check_reason(explain(10, "\6\0\0\0\1", 5), 0, 2, 5, 1, 262101);
+    set_level(139, 100);
+    check_reason(explain(11, "\6\0\0\0\1", 5), 9, 0, 0, 1, -1);
+    check_reason(explain(10, "\6\0\0\0\1", 5), 0, 2, 5, 1, 96);
+    set_level(42, 100);
     check_reason(explain(10, "\6\0\0\0\1", 5), 9, 0, 0, 1, -1);
 }
 
@@ -220,11 +246,12 @@ int main(void) {
     check_closes();
     check_keepalives();
     check_messages();
-    check_leases("\2\0", 2, 262110);
+    check_leases("\2\0", 2, 36);
     /* With the cookie of rows that come and go here, of a held row, and of one that is renewed if the lease is accepted. */
-    check_leases("\2\1" COOKIE, 26, 262086);
-    check_leases("\2\1" OF_9, 26, 262086);
-    check_leases("\2\1" OF_NOBODY, 26, 262086);
+    check_leases("\2\1" COOKIE, 26, 60);
+    check_leases("\2\1" OF_9, 26, 60);
+    check_leases("\2\1" OF_NOBODY, 26, 60);
+    check_extensions();
     check_establishes();
     printf("crondelith_reasons_check: %d failed\n", failures);
     return failures != 0;

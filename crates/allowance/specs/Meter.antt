@@ -10,7 +10,7 @@ use Rattle.allowance.specs.History.{Entry, paid, charges, levelFromHisto
 
 -- What is metered: calls on a state, and what demand 3 has to know of them.
 pub record Meter (State Call Answer : Type 0) : Type 0 where
-  -- how many partners there are, and after how many seconds of clock any call can be paid (01: two)
+  -- how many partners there are, and after how many seconds of clock any call can be paid
   pub partners : ℕ
   pub retryAfter : ℕ
   -- a state: each partner's allowance record, and the latest reading that it keeps
@@ -112,7 +112,7 @@ module _ {State Call Answer : Type 0} (M : Meter State Call Answer) where
     -- "from any accepted charged call of a partner to the same or a later one of that partner, both counted, the charges of its
     -- accepted calls come to at most 262,144 plus 65,536 for each second of clock between the two"
     pub bounded : Bounded (history s run)
-    -- "a partner refused with 9 that then makes no accepted charged call is not refused with 9 for the same bytes two seconds of
+    -- "a partner refused with 9 that then makes no accepted charged call is not refused with 9 for the same bytes" so many "seconds of
     -- clock later": nor for any others.
     pub retry : (before : List Call) (c : Call) (between : List Call) (again : Call) (later : List Call)
         → run ≡ before ++ (c ∷ (between ++ (again ∷ later)))

@@ -15,7 +15,7 @@ module _ (time c : ℕ) (m random reply relay : List ℕ) (k : ℕ) (e : k ≡ b
   unfolding charge
   not-charged h al al′ n a = rw (ends m, ← e, eq-eqb k 9 h) a
 
-  pub is-charged : (k ≡ 9 → ⊥) → (al al′ : List ℕ) (n p : ℕ) → p ≡ n → al′ ≡ setClock (setBucket al (partnerOf c) (spend (bucketOf al (partnerOf c)) time p)) time
+  pub is-charged : (k ≡ 9 → ⊥) → (al al′ : List ℕ) (n : ℕ) → al′ ≡ setClock (setBucket al (partnerOf c) (spend (bucketOf al (partnerOf c)) time n)) time
       → al′ ≡ setClock (charge al (message time c m random reply relay) n) time
   unfolding charge
-  is-charged h al al′ n p q a = rw (ends m, ← e, ne-eqb k 9 h, ← q) a
+  is-charged h al al′ n a = rw (ends m, ← e, ne-eqb k 9 h) a

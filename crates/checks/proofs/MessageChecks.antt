@@ -1,19 +1,16 @@
--- Types and costs of a message, over plain values. Assumes nothing.
-use Prim.Native.Nat.{ℕ, zero, suc, _+_, _≤_}
+-- Types and lengths of a message, over plain values. Assumes nothing.
+use Prim.Native.Nat.{ℕ, zero, suc, _≤_}
 use mathlib.Core.Path.{_≡_, refl, sym}
-use mathlib.Core.Bool.{Bool, true, false, false≢true}
+use mathlib.Core.Bool.{true, false, false≢true}
 use mathlib.Core.Option.{Option, none, some}
 use mathlib.Core.List.{List, [], _∷_}
+use native.Mathlib.Omega.{arith}
 use lib.Dec.{eqb}
 use lib.ListN.{length, getD, List·getD-eq-default}
-use borrow.Author.Tests.{eq-eqb, ne-eqb}
 use Rattle.octets.specs.Octets.{byteAt}
 use Rattle.octets.proofs.Tests.{both-right}
 use Rattle.svsc.specs.Messages.{Message, typeOf, decode, isSome, fromPeer, sentByPeers, longestMessage}
 use Rattle.svsc.proofs.ReadThenWritten.{message-length}
-use Rattle.rules.specs.Sizes.{callCost}
-use Rattle.rules.specs.Calls.{message}
-use Rattle.rules.specs.Charges.{cost}
 use Rattle.rules.specs.Checks.{permitted, permits}
 
 -- ---- types
@@ -38,6 +35,11 @@ pub ends : (m : List ℕ) → eqb (typeOf m) 9 ≡ eqb (byteAt m 0) 9
 ends [] = refl
 ends (x ∷ xs) = refl
 
+pub peer-some : (m : List ℕ) → fromPeer m ≡ true → 1 ≤ length m
+unfolding fromPeer
+peer-some [] h = absurd (false≢true h)
+peer-some (x ∷ xs) h = omega arith
+
 pub peer-length : (m : List ℕ) → fromPeer m ≡ true → length m ≤ longestMessage
 unfolding fromPeer
 peer-length m h = by (decode m) refl (both-right (getD sentByPeers (typeOf m) false) _ h)
@@ -45,14 +47,3 @@ peer-length m h = by (decode m) refl (both-right (getD sentByPeers (typeOf m) fa
     by : (d : Option Message) → decode m ≡ d → isSome (decode m) ≡ true → length m ≤ longestMessage
     by none e s = absurd (false≢true (rw e at s))
     by (some x) e s = message-length m x e
-
--- ---- costs
-
-module _ (time c : ℕ) (m random reply relay : List ℕ) (k : ℕ) (e : k ≡ byteAt m 0) where
-  pub costs-nothing : k ≡ 9 → 0 ≡ cost (message time c m random reply relay)
-  unfolding cost
-  costs-nothing h = rw (ends m, ← e, eq-eqb k 9 h)
-
-  pub costs-length : (k ≡ 9 → ⊥) → callCost + length m ≡ cost (message time c m random reply relay)
-  unfolding cost
-  costs-length h = rw (ends m, ← e, ne-eqb k 9 h)

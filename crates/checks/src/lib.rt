@@ -3,14 +3,12 @@
 ghost use mathlib.Core.Path.{_≡_};
 ghost use mathlib.Core.Bool.{_||_};
 ghost use mathlib.Core.List.{List};
-ghost use Prim.Native.Nat.{ℕ, _≤_, max};
+ghost use Prim.Native.Nat.{ℕ, max};
 ghost use lib.ListN.{length};
 ghost use lib.Dec.{ltb};
-ghost use Rattle.svsc.specs.Messages.{longestMessage};
 ghost use Rattle.rules.specs.Sizes.{allowancesSize};
 ghost use Rattle.rules.specs.Tables.{lent, sized, clock};
 ghost use Rattle.rules.specs.Calls.{message};
-ghost use Rattle.rules.specs.Charges.{cost};
 ghost use Rattle.rules.specs.Checks.{pastLimit, wrongLengths, permits, needsSession};
 
 // 1: whether the tables have their sizes.
@@ -77,16 +75,4 @@ pub fn needs_session(kind: u8) -> bool
     ensures { λ r. ⌜ r ≡ needsSession kind ⌝ }
 {
     (kind == 9) | (kind == 11)
-}
-
-// For 9: what a message costs: nothing, if it ends a session. Of a message that passed check 6, whose length is bounded, so that the sum
-// is too.
-pub fn cost(m: &[u8]) -> u64
-    requires { ⌜ length (now m) ≤ longestMessage ⌝ }
-    ensures { λ r. ⌜ ((time c : ℕ) (random reply relay : List ℕ) → r ≡ cost (message time c (now (m .entry)) random reply relay)) ⌝ }
-{
-    if octets::byte(m, 0) == 9 {
-        return 0;
-    }
-    rules::CALL_COST + m.len() as u64
 }

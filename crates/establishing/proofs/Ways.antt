@@ -1,6 +1,6 @@
 -- The ways out of the functions that establish sessions, over plain values. Assumes nothing.
 use Prim.Native.Nat.{ℕ, _+_, _^_, _≤_, _<_}
-use mathlib.Core.Path.{_≡_}
+use mathlib.Core.Path.{_≡_, _∙_}
 use mathlib.Core.Bool.{true}
 use mathlib.Core.List.{List}
 use native.Mathlib.Omega.{arith}
@@ -15,8 +15,11 @@ use Rattle.rules.specs.Tables.{lent}
 use Rattle.rules.specs.Sessions.{refusedWith, establishedWith, establish, randomSessionId, callersPeerId, callersKey, holdersPeerId, holdersKey}
 use Rattle.rules.specs.Plans.{planEstablish}
 use Rattle.answers.specs.declared.Answer.{Answer}
-use Rattle.answers.specs.Applied.{handled, applied, coded, replied, toldBoth}
-use Rattle.establishing.specs.Asked.{Wrote}
+use Rattle.answers.specs.Applied.{Handled, handled, applied, coded, replied, toldBoth}
+use Rattle.statuses.specs.Decisions.{decidedAs}
+use Rattle.statuses.specs.declared.EstablishDecision.{EstablishDecision}
+use Rattle.statuses.specs.declared.EstablishDecision.the-variants as decision
+use Rattle.establishing.specs.Asked.{Wrote, InStatuses}
 use Rattle.answers.proofs.Writes.{part-bytes, sized-length, sent-length, sent-buffer}
 
 -- ---- ranges and lengths
@@ -91,3 +94,13 @@ module _ (cs ls al reply relay : List ℕ) (c id : ℕ) (random : List ℕ) wher
       → handled r cs′ ls reply′ relay′ ≡ applied (planEstablish (lent cs ls al) c id random (establishedWith h)) reply relay
   unfolding applied planEstablish
   session-made h n k cs′ reply′ relay′ r e w v a = rw (a, e, w .stored, w .count, v .stored, v .count)
+
+-- the status of a decision that refuses
+pub status-in : (d : EstablishDecision) {status : ℕ} → d ≡ decision.RefusedWith status → InStatuses (decidedAs d) → (1 ≤ status) × (status ≤ 5)
+status-in d e h = rw e at h
+
+-- the outcome of what was decided: x with the values that the match names
+pub as-decided : (cs ls al reply relay : List ℕ) (c id : ℕ) (random : List ℕ) (d : EstablishDecision) {x : EstablishDecision} {o : Handled} → d ≡ x
+    → o ≡ applied (planEstablish (lent cs ls al) c id random (decidedAs x)) reply relay
+    → o ≡ applied (planEstablish (lent cs ls al) c id random (decidedAs d)) reply relay
+as-decided cs ls al reply relay c id random d e h = h ∙ rw (← e)

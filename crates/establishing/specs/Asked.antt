@@ -5,6 +5,7 @@ use mathlib.Core.List.{List}
 use lib.ListN.{length}
 use Rattle.octets.specs.Octets.{put}
 use Rattle.rules.specs.Sizes.{leastBuffer, randomBytes}
+use Rattle.rules.specs.Sessions.{EstablishDecision, refusedWith, establishedWith}
 
 pub record Joinable (random reply relay : List ℕ) : Type 0 where
   pub random-size : length random ≡ randomBytes
@@ -15,3 +16,8 @@ pub record Joinable (random reply relay : List ℕ) : Type 0 where
 pub record Wrote (bytes : List ℕ) (n : ℕ) (buffer after : List ℕ) : Type 0 where
   pub count : n ≡ length bytes
   pub stored : after ≡ put buffer 0 bytes
+
+-- a decision whose status the protocol has
+abbrev pub InStatuses : EstablishDecision → Type 0
+InStatuses (refusedWith status) = (1 ≤ status) × (status ≤ 5)
+InStatuses (establishedWith holder) = Unit {0}

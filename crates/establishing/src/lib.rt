@@ -1,17 +1,18 @@
-// Sessions established: decided first, then written. Sizes, numbers in range and the room in the buffers are what the checks have shown,
+// Sessions: what was decided on a request, carried out. Numbers in range and the room in the buffers are what the checks have shown,
 // and no answer would serve where they fail.
 ghost use mathlib.Core.Path.{_≡_};
 ghost use mathlib.Core.List.{List};
-ghost use Prim.Native.Nat.{ℕ, _≤_, _<_};
+ghost use Prim.Native.Nat.{ℕ, _≤_};
 ghost use lib.ListN.{length};
 ghost use Rattle.svsc.specs.Messages.{encode, Established, EstablishNotification};
-ghost use Rattle.rules.specs.Sizes.{connectionCount, leasesSize, leastBuffer, randomBytes};
+ghost use Rattle.rules.specs.Sizes.{leastBuffer, randomBytes};
 ghost use Rattle.rules.specs.Tables.{lent};
-ghost use Rattle.rules.specs.Sessions.{decideEstablish, refusedWith, establishedWith};
+ghost use Rattle.rules.specs.Sessions.{refusedWith, establishedWith};
 ghost use Rattle.rules.specs.Sessions.{randomSessionId, callersPeerId, callersKey, holdersPeerId, holdersKey};
 ghost use Rattle.rules.specs.Plans.{planEstablish};
 ghost use Rattle.answers.specs.Applied.{handled, applied};
-ghost use Rattle.establishing.specs.Asked.{Wrote, Joinable};
+ghost use Rattle.statuses.specs.Decisions.{decidedAs};
+ghost use Rattle.establishing.specs.Asked.{Wrote, Joinable, InStatuses};
 use answers::Answer;
 use statuses::EstablishDecision;
 
@@ -72,23 +73,21 @@ fn join(
     answers::both(told, notified, holder)
 }
 
-// Type 6.
+// Type 6: what was decided, carried out.
 pub fn establish(
     connections: &mut [u8],
-    leases: &[u8],
-    time: u64,
     c: u8,
     id: u32,
+    decision: EstablishDecision,
     random: &[u8],
     reply: &mut [u8],
     relay: &mut [u8],
 ) -> Answer
-    requires { ⌜ (length (now leases) ≡ leasesSize) × (c < connectionCount) × (Joinable (now random) (now reply) (now relay)) ⌝ }
-    ensures { λ r. ⌜ ((al : List ℕ) → handled r (now (connections .exit)) (now (leases .entry)) (now (reply .exit)) (now (relay .exit))
-        ≡ applied (planEstablish (lent (now (connections .entry)) (now (leases .entry)) al) c id (now (random .entry))
-        (decideEstablish (now (connections .entry)) (now (leases .entry)) time c id)) (now (reply .entry)) (now (relay .entry))) ⌝ }
+    requires { ⌜ (Joinable (now random) (now reply) (now relay)) × (InStatuses (decidedAs decision)) ⌝ }
+    ensures { λ r. ⌜ ((ls al : List ℕ) → handled r (now (connections .exit)) ls (now (reply .exit)) (now (relay .exit))
+        ≡ applied (planEstablish (lent (now (connections .entry)) ls al) c id (now (random .entry)) (decidedAs decision))
+        (now (reply .entry)) (now (relay .entry))) ⌝ }
 {
-    let decision = statuses::decide(connections, leases, time, c, id);
     match decision {
         EstablishDecision::RefusedWith(status) => refuse(reply, id, status),
         EstablishDecision::EstablishedWith(holder) => join(

@@ -7,8 +7,9 @@ use Rattle.rules.specs.Searches.{firstFrom, anyFrom}
 use Rattle.rules.specs.Tables.{state, inSession, hasSession, isUnanswered, lastSent, keepaliveSent, expiry, idOf, cookieOf, live, liveWithId, holderCounts, bucketOf, clock, bucketBytes, records, fresh, sized}
 use Rattle.rules.specs.Leases.{leaseEnd, candidate, idTaken, firstFree, holdsRow, isEarlier, isEarliest, spareRow, cookieTaken, hasItsId, idElsewhere, renewable, rowToRenew, renewOrGrant, decideLease, grant, renew, rowToExtend, releaseFrom, release}
 use Rattle.rules.specs.Sessions.{clear, await, rowOfId, decideEstablish, join, establish, leave, endSession}
+use Rattle.rules.specs.Decisions.{decideMessage}
 use Rattle.rules.specs.Keepalives.{isDead, isDue, ask, answered, stamp}
-use Rattle.rules.specs.Plans.{planOpen, planVersionAnswer, planLease, planExtension, planEstablish, planEnd, planData, planClose, planMessage, planKeepalive, planCall, plan}
+use Rattle.rules.specs.Plans.{planOpen, planVersionAnswer, planLease, planExtension, planEstablish, planEnd, planData, planClose, planDecided, planMessage, planKeepalive, planCall, plan}
 use Rattle.rules.specs.Charges.{cost, price, callerLevel, charge}
 use Rattle.rules.specs.Checks.{wrongTime, wrongState, wrongLengths, notFromPeer, notPermitted, noSession, aboveLevel, firstEight, checks, firstApplying, precheck, check, checkStart}
 use Rattle.rules.specs.Step.{done, step, start}
@@ -30,7 +31,7 @@ unfolding leaseEnd candidate idTaken firstFree holdsRow isEarlier isEarliest spa
 leases = tt
 
 unfoldable pub sessions : Unit {0}
-unfolding clear await rowOfId decideEstablish join establish leave endSession
+unfolding clear await rowOfId decideEstablish decideMessage join establish leave endSession
 sessions = tt
 
 unfoldable pub keepalives : Unit {0}
@@ -38,7 +39,7 @@ unfolding isDead isDue ask answered stamp
 keepalives = tt
 
 unfoldable pub plans : Unit {0}
-unfolding planOpen planVersionAnswer planLease planExtension planEstablish planEnd planData planClose planMessage planKeepalive planCall plan
+unfolding planOpen planVersionAnswer planLease planExtension planEstablish planEnd planData planClose planDecided planMessage planKeepalive planCall plan
 plans = tt
 
 unfoldable pub checked : Unit {0}

@@ -79,7 +79,7 @@ withLevel tables level updated = record {
 
 unfoldable pub exactly : Outcome
 unfolding computed random joined withLevel
-exactly = step (withLevel joined 65566 100) (sendsLong 100 0 longest)
+exactly = step (withLevel joined 131100 100) (sendsLong 100 0 longest)
 
 -- ---- what is shown of an outcome
 
@@ -117,9 +117,9 @@ examples =
     ∷ row 7
     (levelAt (withLevel free 0 10) 13 ∷ levelAt (withLevel free 0 10) 14 ∷ levelAt (withLevel free 0 10) 15 ∷ [])
     (196608 ∷ 262144 ∷ 262144 ∷ [])
-    -- 8. Longest send costs 65,566: level 65,565 refuses, 65,566 leaves 0.
-    ∷ row 8 (cost (sendsLong 100 0 longest) ∷ []) (65566 ∷ [])
-    ∷ row 8 (answered (step (withLevel joined 65565 100) (sendsLong 100 0 longest))) (9 ∷ [])
+    -- 8. 02, Item 5: the longest send costs 131,100: level 131,099 refuses, 131,100 leaves 0.
+    ∷ row 8 (cost (sendsLong 100 0 longest) (exactly .answer) ∷ []) (131100 ∷ [])
+    ∷ row 8 (answered (step (withLevel joined 131099 100) (sendsLong 100 0 longest))) (9 ∷ [])
     ∷ row 8 (exactly .answer .number ∷ levelAt (exactly .tables) 100 ∷ []) (0 ∷ 0 ∷ [])
     -- 9. Reading 2^40 - 1 may pass, 2^40 is 2.
     ∷ row 9 (answered (step free (sends (2 ^ 40 - 1) 0 (13 ∷ []))) ++ answered (step free (sends (2 ^ 40) 0 (13 ∷ [])))) (0 ∷ 2 ∷ [])

@@ -54,24 +54,25 @@ full = lent (free .connections) (records rowCount (bigEndian 8 200 ++ replicate 
 unfoldable pub explained : List Row
 unfolding computed random free leased joined withLevel candidates full asked decided headroom explain
 explained =
-    -- Fresh at 100: an open has headroom 262,112.
-    row (fresh 100) (opening 100 0 buffer) 0 0 0 1 (pos 262112)
-    -- Level 20: an open is 12 short; level 10: a lease without cookie is 24 short, and has decided nothing.
-    ∷ row (withLevel (fresh 100) 20 100) (opening 100 0 buffer) 9 0 0 1 (negsuc 11)
-    ∷ row (withLevel free 10 100) (asks 0 eights (2 ∷ 0 ∷ [])) 9 0 0 1 (negsuc 23)
+    -- Fresh at 100: an open has headroom 262,099.
+    row (fresh 100) (opening 100 0 buffer) 0 0 0 1 (pos 262099)
+    -- Level 20: an open is 25 short; level 10: a lease without cookie, which would be granted, is 62 short, and has decided nothing.
+    ∷ row (withLevel (fresh 100) 20 100) (opening 100 0 buffer) 9 0 0 1 (negsuc 24)
+    ∷ row (withLevel free 10 100) (asks 0 eights (2 ∷ 0 ∷ [])) 9 0 0 1 (negsuc 61)
     -- A row held live by the caller, and the drawn cookie and every candidate live too: condition 1; the same for another caller of the
-    -- partner: 3; with a new cookie: 4; all sixteen rows live: 2. What is left: opens of 32, answers and leases of 34 each.
-    ∷ row leased (asks 0 nines (2 ∷ 0 ∷ [])) 0 1 1 1 (pos 261944)
-    ∷ row leased (asks 1 nines (2 ∷ 0 ∷ [])) 0 1 3 1 (pos 261944)
-    ∷ row leased (asks 1 eights (2 ∷ 0 ∷ [])) 0 1 4 1 (pos 261944)
-    ∷ row full (asks 0 eights (2 ∷ 0 ∷ [])) 0 1 2 1 (pos 261978)
+    -- partner: 3; with a new cookie: 4; all sixteen rows live: 2. What is left: opens of 45, answers of 34, a lease of 72; refused leases
+    -- cost 36.
+    ∷ row leased (asks 0 nines (2 ∷ 0 ∷ [])) 0 1 1 1 (pos 261878)
+    ∷ row leased (asks 1 nines (2 ∷ 0 ∷ [])) 0 1 3 1 (pos 261878)
+    ∷ row leased (asks 1 eights (2 ∷ 0 ∷ [])) 0 1 4 1 (pos 261878)
+    ∷ row full (asks 0 eights (2 ∷ 0 ∷ [])) 0 1 2 1 (pos 261950)
     -- All held.
-    ∷ row free (asks 0 nines (2 ∷ 0 ∷ [])) 0 1 0 1 (pos 261978)
+    ∷ row free (asks 0 nines (2 ∷ 0 ∷ [])) 0 1 0 1 (pos 261914)
     -- An id that is leased to nobody, the caller's own, another's, and one asked for in session.
-    ∷ row leased (asks 0 nines (6 ∷ 0 ∷ 0 ∷ 0 ∷ 5 ∷ [])) 0 2 1 1 (pos 261941)
-    ∷ row leased (asks 0 nines (6 ∷ 0 ∷ 0 ∷ 0 ∷ 1 ∷ [])) 0 2 5 1 (pos 261941)
-    ∷ row leased (asks 1 nines (6 ∷ 0 ∷ 0 ∷ 0 ∷ 1 ∷ [])) 0 2 0 1 (pos 261941)
-    ∷ row joined (asks 0 nines (6 ∷ 0 ∷ 0 ∷ 0 ∷ 5 ∷ [])) 0 2 4 1 (pos 261904)
+    ∷ row leased (asks 0 nines (6 ∷ 0 ∷ 0 ∷ 0 ∷ 5 ∷ [])) 0 2 1 1 (pos 261871)
+    ∷ row leased (asks 0 nines (6 ∷ 0 ∷ 0 ∷ 0 ∷ 1 ∷ [])) 0 2 5 1 (pos 261871)
+    ∷ row leased (asks 1 nines (6 ∷ 0 ∷ 0 ∷ 0 ∷ 1 ∷ [])) 0 2 0 1 (pos 261774)
+    ∷ row joined (asks 0 nines (6 ∷ 0 ∷ 0 ∷ 0 ∷ 5 ∷ [])) 0 2 4 1 (pos 261731)
     -- Free calls have no headroom, and neither has what an earlier check stops.
     ∷ row joined (asks 0 nines (9 ∷ [])) 0 0 0 0 (pos 0)
     ∷ row joined (closing 100 0 buffer) 0 0 0 0 (pos 0)

@@ -1,45 +1,36 @@
 // Why a message is answered as it is: the check that stops it, what decided a done lease or establish, and its headroom.
 ghost use mathlib.Core.Path.{_≡_};
 ghost use mathlib.Core.List.{List};
-ghost use Prim.Native.Nat.{ℕ};
+ghost use Prim.Native.Nat.{ℕ, _≤_, _<_};
 ghost use lib.ListN.{length};
 ghost use Rattle.rules.specs.Tables.{lent};
 ghost use Rattle.rules.specs.Calls.{message};
-ghost use Rattle.rules.specs.Sizes.{allowancesSize};
-ghost use Rattle.rules.specs.Checks.{precheck, check};
+ghost use Rattle.rules.specs.Sizes.{connectionCount, allowancesSize};
+ghost use Rattle.rules.specs.Checks.{precheck};
 ghost use Rattle.rules.specs.Reasons.{explain};
 ghost use Rattle.reasons.specs.Coded.{coded};
-ghost use Rattle.explain_message.specs.Asked.{Judged};
+ghost use Rattle.message_refusal.specs.Assessed.{assessedAs, assessed};
+use message_refusal::Assessment;
 use reasons::Reason;
 
-mod decisions; // what decided a message
+mod naming; // what decided a message
 
-// The reason of a message that has passed checks 1 to 8, which is answered with this number.
-fn judged(
-    connections: &[u8],
-    leases: &[u8],
-    allowances: &[u8],
-    time: u64,
-    c: u8,
-    m: &[u8],
-    random: &[u8],
-    number: u32,
-) -> Reason
-    requires { ⌜ (Judged (now leases) c (now m) (now random)) × (length (now allowances) ≡ allowancesSize) ⌝ }
-    ensures { λ r. ⌜ ((reply relay : List ℕ)
-        → number ≡ check (lent (now (connections .entry)) (now (leases .entry)) (now (allowances .entry)))
-        (message time c (now (m .entry)) (now (random .entry)) reply relay)
-        → precheck (lent (now (connections .entry)) (now (leases .entry)) (now (allowances .entry)))
-        (message time c (now (m .entry)) (now (random .entry)) reply relay) ≡ 0
-        → r ≡ coded (explain (lent (now (connections .entry)) (now (leases .entry)) (now (allowances .entry)))
-        (message time c (now (m .entry)) (now (random .entry)) reply relay))) ⌝ }
+// The reason of a message that has passed checks 1 to 8, by what they hand on.
+fn judged(allowances: &[u8], time: u64, c: u8, m: &[u8], found: Assessment) -> Reason
+    requires { ⌜ (length (now allowances) ≡ allowancesSize) × (c < connectionCount) × (found .price ≤ 131100) ⌝ }
+    ensures { λ r. ⌜ ((cs ls random reply relay : List ℕ)
+        → assessedAs found (now (m .entry)) random
+        ≡ assessed (lent cs ls (now (allowances .entry))) time c (now (m .entry)) random reply relay
+        → precheck (lent cs ls (now (allowances .entry))) (message time c (now (m .entry)) random reply relay) ≡ 0
+        → r ≡ coded (explain (lent cs ls (now (allowances .entry))) (message time c (now (m .entry)) random reply relay))) ⌝ }
 {
-    let named = decisions::decided(connections, leases, time, c, m, random, number);
+    let decision = found.decision;
+    let named = naming::decided(found.number, decision);
     if octets::byte(m, 0) == 9 {
-        return reasons::without_headroom(number, named);
+        return reasons::without_headroom(found.number, named);
     }
     let level = allowance_table::level(allowances, lease_table::partner_of(c), time);
-    reasons::with_headroom(number, named, level, checks::cost(m))
+    reasons::with_headroom(found.number, named, level, found.price)
 }
 
 #[no_mangle]
@@ -58,7 +49,7 @@ pub extern "C" fn crondelith_explain_message(
         → r ≡ coded (explain (lent (now (connections .entry)) (now (leases .entry)) (now (allowances .entry)))
         (message time connection (now (m .entry)) (now (random .entry)) reply relay))) ⌝ }
 {
-    let found = message_refusal::refusal(
+    let found = message_refusal::assess(
         connections,
         leases,
         allowances,
@@ -72,14 +63,5 @@ pub extern "C" fn crondelith_explain_message(
     if reasons::is_stopped(found.number) {
         return reasons::without_headroom(found.number, reasons::nothing_named());
     }
-    judged(
-        connections,
-        leases,
-        allowances,
-        time,
-        connection as u8,
-        m,
-        random,
-        found.number,
-    )
+    judged(allowances, time, connection as u8, m, found)
 }

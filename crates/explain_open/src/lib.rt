@@ -36,5 +36,5 @@ pub extern "C" fn crondelith_explain_open(
     }
     let partner = lease_table::partner_of(connection as u8);
     let level = allowance_table::level(allowances, partner, time);
-    reasons::with_headroom(check, nothing, level, rules::CALL_COST)
+    reasons::with_headroom(check, nothing, level, rules::OPEN_COST)
 }

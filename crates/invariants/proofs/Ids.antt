@@ -53,7 +53,7 @@ module _
         distinct-grant ls now d row (leaseEnd al now) id drawn c size (omega (arith, g .own .high)) (g .id-small) (g .id-free)
         (rw (g .cookie-is) (length-part-most random 0 cookieBytes)))
 
-    extension-distinct : (cookie : List ℕ) → Distinct (planExtension tables now c cookie)
+    extension-distinct : (cookie : List ℕ) → Distinct (planExtension tables now c (rowToExtend ls now c cookie))
     unfolding planExtension
     extension-distinct cookie =
         by-test Distinct (ltb (rowToExtend ls now c cookie) (endRow (partnerOf c)))

@@ -189,10 +189,10 @@ module _ (tables : Tables) (now c : ℕ) (zs : SpareZero tables) where
             grant-zero i l u ls row (leaseEnd al now) id drawn c (rw (g .cookie-is) (length-part-most random 0 cookieBytes)) (zs .leases i l u);
       })
 
-  extension-zero : (cookie : List ℕ) → Zero (planExtension tables now c cookie)
+  extension-zero : (row : ℕ) → Zero (planExtension tables now c row)
   unfolding planExtension
-  extension-zero cookie =
-      by-test Zero (ltb (rowToExtend ls now c cookie) (endRow (partnerOf c)))
+  extension-zero row =
+      by-test Zero (ltb row (endRow (partnerOf c)))
       (λ h. record { connections = zs .connections; leases = λ i l u. expiry-zero i l u ls _ (leaseEnd al now) (zs .leases i l u) })
       (λ h. stay-zero _ _ _ _)
 
@@ -224,7 +224,7 @@ module _ (tables : Tables) (now c : ℕ) (zs : SpareZero tables) where
     open-plan = open-zero;
     version-answer = λ t. answer-zero;
     lease = lease-zero;
-    extension = extension-zero;
+    extension = λ cookie. extension-zero (rowToExtend ls now c cookie);
     establish-plan = λ id random long o. establish-zero id random (decideEstablish cs ls now c id);
     end-plan = λ h. end-plan-zero;
     data-plan = λ h bytes l. stay-zero _ _ _ _;

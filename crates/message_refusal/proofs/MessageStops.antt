@@ -3,22 +3,29 @@ use Prim.Native.Nat.{ℕ, _≤_, _<_}
 use mathlib.Core.Path.{_≡_, refl, sym, ap, _∙_}
 use mathlib.Core.Bool.{Bool, true, false, not, _&&_, _||_, false≢true}
 use mathlib.Core.List.{List, [], _∷_, _++_}
+use native.Mathlib.Decide.{ℕ-discrete}
 use lib.Dec.{eqb, ltb}
 use lib.ListN.{length, replicate, length-replicate}
-use borrow.Author.Tests.{eq-eqb, ne-eqb, lt-ltb, le-ltb, not-false, not-true}
+use borrow.Author.Tests.{eq-eqb, ne-eqb, not-false, not-true}
 use Rattle.octets.specs.Octets.{if_then_else_, byteAt}
-use Rattle.svsc.specs.Messages.{typeOf, fromPeer, longestMessage}
-use Rattle.rules.specs.Sizes.{connectionCount, allowancesSize, nobody}
-use Rattle.rules.specs.Tables.{Tables, state, peer, inSession, hasSession, clock}
+use Rattle.svsc.specs.Messages.{typeOf, decode, fromPeer, longestMessage}
+use Rattle.allowance.specs.Bucket.{levelNow}
+use Rattle.rules.specs.Sizes.{connectionCount, leasesSize, allowancesSize, randomBytes, nobody}
+use Rattle.rules.specs.Tables.{Tables, partnerOf, bucketOf, state, peer, inSession, hasSession, clock}
+use Rattle.rules.specs.Decisions.{Decision, decideMessage}
 use Rattle.rules.specs.Calls.{Call, message}
-use Rattle.rules.specs.Charges.{cost, price, callerLevel}
-use Rattle.rules.specs.Checks.{wrongSize, wrongTime, unknownConnection, wrongState, wrongLengths, notFromPeer, permits, notPermitted, needsSession, noSession, aboveLevel, pastLimit, firstEight, checks, firstApplying, precheck, check, found}
-use Rattle.rules.proofs.Checks.{passed as shown, from-peer}
-use Rattle.checks.proofs.MessageChecks.{type-known, peer-length}
+use Rattle.rules.specs.Charges.{price, callerLevel}
+use Rattle.rules.specs.Checks.{wrongSize, wrongTime, unknownConnection, wrongState, wrongLengths, notFromPeer, permits, notPermitted, needsSession, noSession, aboveLevel, pastLimit, firstEight, checks, firstApplying, precheck, check}
+use Rattle.rules.proofs.Checks.{passed as shown, from-peer, random-length}
+use Rattle.rules.proofs.Prices.{message-price, prices}
+use Rattle.checks.proofs.MessageChecks.{type-known, peer-some, peer-length}
 use Rattle.refusals.specs.Passed.{firstThree}
 use Rattle.refusals.proofs.Stops.{stopped, passed, first-passed, others-passed}
+use Rattle.decisions.specs.Decided.{meaning, priceOf}
 use Rattle.message_refusal.specs.declared.Found.{Found}
-use Rattle.message_refusal.specs.Own.{foundOf, ownChecks, sessionCheck, foundByEight, foundByNine}
+use Rattle.message_refusal.specs.declared.Assessment.{Assessment}
+use Rattle.message_refusal.specs.Own.{foundOf, ownChecks, sessionCheck, found, foundByEight}
+use Rattle.message_refusal.specs.Assessed.{Assessed, assessedOf, assessedAs, stoppedBy, assessed}
 
 -- ---- checks 4 to 7
 
@@ -88,12 +95,12 @@ module _ (tables : Tables) (time c : ℕ) (m random reply relay : List ℕ) wher
   four = wrongState (tables .connections) told ∷ wrongLengths told ∷ notFromPeer told ∷ notPermitted (tables .connections) told ∷ []
 
   -- whoever is stopped, by whichever check, has found nobody
-  stopped-found : (k : ℕ) → k ≡ precheck tables told → (k ≡ 0 → ⊥) → foundOf k nobody ≡ foundByEight tables told
+  stopped-found : (k : ℕ) → k ≡ precheck tables told → (k ≡ 0 → ⊥) → foundOf k nobody ≡ foundByEight tables time c m random reply relay
   unfolding foundByEight found
   stopped-found k e h = rw (← e, ne-eqb k 0 h)
 
   module _ (k : ℕ) (e : k ≡ firstThree tables time c) where
-    pub three-found : (k ≡ 0 → ⊥) → foundOf k nobody ≡ foundByEight tables told
+    pub three-found : (k ≡ 0 → ⊥) → foundOf k nobody ≡ foundByEight tables time c m random reply relay
     unfolding firstThree precheck firstEight wrongTime
     three-found h =
         stopped-found k
@@ -105,7 +112,7 @@ module _ (tables : Tables) (time c : ℕ) (m random reply relay : List ℕ) wher
       after-three =
           passed 0 (wrongSize tables ∷ (pastLimit time || ltb time (clock (tables .allowances))) ∷ unknownConnection told ∷ []) _ k e z
 
-      pub own-found : (j ≡ 0 → ⊥) → foundOf j nobody ≡ foundByEight tables told
+      pub own-found : (j ≡ 0 → ⊥) → foundOf j nobody ≡ foundByEight tables time c m random reply relay
       unfolding ownChecks four
       own-found h = stopped-found j (stopped 3 four (noSession (tables .connections) told ∷ []) j f h ∙ sym after-three) h
 
@@ -124,7 +131,7 @@ module _ (tables : Tables) (time c : ℕ) (m random reply relay : List ℕ) wher
             by true = refl
             by false = refl
 
-        pub session-found : r ≡ foundByEight tables told
+        pub session-found : r ≡ foundByEight tables time c m random reply relay
         unfolding sessionCheck foundByEight found
         session-found =
             hr ∙ rw (last-of-eight, type-known m sent-by-peer ∙ sym ht) (by (needsSession type) (hasSession (tables .connections) c))
@@ -138,62 +145,123 @@ module _ (tables : Tables) (time c : ℕ) (m random reply relay : List ℕ) wher
             by true false = refl
             by false s = refl
 
--- what eight passed checks show, of buffers of any content
-module _
-    (tables : Tables) (time c : ℕ) (m random : List ℕ) (n l : ℕ) (r : Found)
-    (e : (reply relay : List ℕ) → length reply ≡ n → length relay ≡ l → r ≡ foundByEight tables (message time c m random reply relay))
-    (z : r .number ≡ 0)
-  where
-    eight-passed : precheck tables (message time c m random (replicate n 0) (replicate l 0)) ≡ 0
-    unfolding foundByEight
-    eight-passed = sym (ap (λ (r : Found). r .number) (e (replicate n 0) (replicate l 0) (length-replicate n 0) (length-replicate l 0))) ∙ z
-
-    pub eight-length : length m ≤ longestMessage
-    eight-length = peer-length m (from-peer tables time c m random _ _ eight-passed)
-
-    pub eight-known : (c < connectionCount) × (length (tables .allowances) ≡ allowancesSize)
-    eight-known =
-        let ok = shown tables _ eight-passed in
-        (ok .known, ok .allowances)
-
 -- ---- all nine
 
-module _ (tables : Tables) (call : Call) (r : Found) (e : r ≡ foundByEight tables call) where
-  number-is : r .number ≡ precheck tables call
-  unfolding foundByEight
-  number-is = ap (λ (r : Found). r .number) e
+-- what eight passed checks show; r is what they found
+module _
+    (tables : Tables) (time c : ℕ) (m random reply relay : List ℕ) (r : Found) (e : r ≡ foundByEight tables time c m random reply relay)
+  where
+    abbrev call : Call
+    call = message time c m random reply relay
 
-  peer-is : r .peer ≡ found tables call
-  unfolding foundByEight
-  peer-is = ap (λ (r : Found). r .peer) e
+    number-is : r .number ≡ precheck tables call
+    unfolding foundByEight
+    number-is = ap (λ (r : Found). r .number) e
 
-  pub eight-stop : (r .number ≡ 0 → ⊥) → r ≡ foundByNine tables call
-  unfolding foundByEight foundByNine check checks precheck
-  eight-stop h =
-      e ∙ ap (λ (k : ℕ). foundOf k (found tables call))
-      (sym number-is ∙ stopped 0 (firstEight tables call) (aboveLevel tables call ∷ []) _ number-is h)
+    -- one of them stops it
+    pub eight-stop : (r .number ≡ 0 → ⊥) → (a : Assessed) → a ≡ stoppedBy (r .number) → a ≡ assessed tables time c m random reply relay
+    unfolding assessed
+    eight-stop h a s = s ∙ rw (number-is, ne-eqb (precheck tables call) 0 (λ z. h (number-is ∙ z)))
 
-  module _
-      (z : r .number ≡ 0) (level price : ℕ) (hl : level ≡ callerLevel (tables .allowances) call) (hc : price ≡ cost call)
-    where
-      last-check : check tables call ≡ firstApplying 9 (ltb level price ∷ [])
-      unfolding check checks precheck firstEight aboveLevel price
-      last-check = passed 0 (firstEight tables call) (aboveLevel tables call ∷ []) _ number-is z ∙ rw (hl, hc)
+    module _ (z : r .number ≡ 0) where
+      eight-passed : precheck tables call ≡ 0
+      eight-passed = sym number-is ∙ z
 
-      pub above-level : level < price → foundOf 9 (r .peer) ≡ foundByNine tables call
-      unfolding foundByNine firstApplying
-      above-level l = rw (peer-is, last-check, lt-ltb level price l)
+      -- for a type that needs a session
+      pub peer-found : needsSession (typeOf m) ≡ true → r .peer ≡ peer (tables .connections) c
+      unfolding foundByEight found
+      peer-found t = ap (λ (r : Found). r .peer) e ∙ rw (eq-eqb (precheck tables call) 0 eight-passed, t)
 
-      pub all-pass : price ≤ level → r ≡ foundByNine tables call
-      unfolding foundByNine foundByEight firstApplying
-      all-pass l = e ∙ rw (← number-is, z, last-check, le-ltb level price l)
+      price-known : (d : Decision) (n : ℕ) → d ≡ decideMessage (tables .connections) (tables .leases) time c random (decode m) → n ≡ priceOf c m d
+          → n ≡ price tables call
+      price-known d n hd hn = hn ∙ rw hd (go (ℕ-discrete (typeOf m) 9))
+        where
+          go : Dec (typeOf m ≡ 9)
+              → priceOf c m (decideMessage (tables .connections) (tables .leases) time c random (decode m)) ≡ price tables call
+          go (yes t) = rw (eq-eqb (typeOf m) 9 t) (sym (prices tables .message-prices time c m random reply relay eight-passed .session-end t))
+          go (no k) = rw (ne-eqb (typeOf m) 9 k) (sym (message-price tables time c m random reply relay eight-passed k))
 
--- both parts of what is found
-module _ (tables : Tables) (call : Call) (r : Found) (e : r ≡ foundByNine tables call) where
-  pub nine-number : r .number ≡ check tables call
-  unfolding foundByNine
-  nine-number = ap (λ (r : Found). r .number) e
+      last-check : (n : ℕ) → n ≡ price tables call → (if ltb (callerLevel (tables .allowances) call) n then 9 else 0) ≡ check tables call
+      unfolding check checks precheck firstEight aboveLevel firstApplying
+      last-check n hn =
+          rw hn (sym (passed 0 (firstEight tables call) (aboveLevel tables call ∷ []) _ number-is z ∙ by (aboveLevel tables call)))
+        where
+          by : (t : Bool) → firstApplying 9 (t ∷ []) ≡ (if t then 9 else 0)
+          by true = refl
+          by false = refl
 
-  pub nine-peer : r .peer ≡ found tables call
-  unfolding foundByNine
-  nine-peer = ap (λ (r : Found). r .peer) e
+      -- none stops it: the decision, its price, and check 9
+      pub all-assessed : (d : Decision) (n k : ℕ) → d ≡ decideMessage (tables .connections) (tables .leases) time c random (decode m)
+          → n ≡ priceOf c m d → k ≡ (if ltb (levelNow (bucketOf (tables .allowances) (partnerOf c)) time) n then 9 else 0)
+          → assessedOf k n d ≡ assessed tables time c m random reply relay
+      unfolding assessed callerLevel
+      all-assessed d n k hd hn hk =
+          let paid = price-known d n hd hn in
+          rw (eq-eqb (precheck tables call) 0 eight-passed, hk ∙ last-check n paid, paid, hd)
+
+pub record EightPassed (tables : Tables) (c : ℕ) (m random : List ℕ) : Type 0 where
+  pub known : c < connectionCount
+  pub leases : length (tables .leases) ≡ leasesSize
+  pub allowances : length (tables .allowances) ≡ allowancesSize
+  pub random-size : length random ≡ randomBytes
+  pub some : 1 ≤ length m
+  pub short : length m ≤ longestMessage
+
+-- what they show of buffers of any content
+module _
+    (tables : Tables) (time c : ℕ) (m random : List ℕ) (n l : ℕ) (r : Found)
+    (e : (reply relay : List ℕ) → length reply ≡ n → length relay ≡ l → r ≡ foundByEight tables time c m random reply relay)
+    (z : r .number ≡ 0)
+  where
+    shown-passed : precheck tables (message time c m random (replicate n 0) (replicate l 0)) ≡ 0
+    shown-passed =
+        eight-passed tables time c m random (replicate n 0) (replicate l 0) r
+        (e (replicate n 0) (replicate l 0) (length-replicate n 0) (length-replicate l 0)) z
+
+    pub eight-known : EightPassed tables c m random
+    eight-known =
+        let ok = shown tables _ shown-passed in
+        let peer = from-peer tables time c m random _ _ shown-passed in
+        record {
+          known = ok .known;
+          leases = ok .leases;
+          allowances = ok .allowances;
+          random-size = random-length tables time c m random _ _ shown-passed;
+          some = peer-some m peer;
+          short = peer-length m peer;
+        }
+
+-- ---- the three parts of what is handed on
+
+module _
+    (tables : Tables) (time c : ℕ) (m random reply relay : List ℕ) (a : Assessment)
+    (e : assessedAs a m random ≡ assessed tables time c m random reply relay)
+  where
+    abbrev judged : Call
+    judged = message time c m random reply relay
+
+    where-passed : precheck tables judged ≡ 0
+        → assessed tables time c m random reply relay
+        ≡ assessedOf (check tables judged) (price tables judged) (decideMessage (tables .connections) (tables .leases) time c random (decode m))
+    unfolding assessed
+    where-passed h = rw (eq-eqb (precheck tables judged) 0 h)
+
+    where-stopped : (precheck tables judged ≡ 0 → ⊥) → assessed tables time c m random reply relay .number ≡ check tables judged
+    unfolding assessed check checks precheck
+    where-stopped n =
+        rw (ne-eqb (precheck tables judged) 0 n)
+        (stopped 0 (firstEight tables judged) (aboveLevel tables judged ∷ []) (precheck tables judged) refl n)
+
+    pub assessed-number : a .number ≡ check tables judged
+    assessed-number = ap (λ (x : Assessed). x .number) e ∙ go (ℕ-discrete (precheck tables judged) 0)
+      where
+        go : Dec (precheck tables judged ≡ 0) → assessed tables time c m random reply relay .number ≡ check tables judged
+        go (yes h) = rw (where-passed h)
+        go (no n) = where-stopped n
+
+    module _ (h : precheck tables judged ≡ 0) where
+      pub assessed-price : a .price ≡ price tables judged
+      assessed-price = ap (λ (x : Assessed). x .price) (e ∙ where-passed h)
+
+      pub assessed-decision : meaning (a .decision) m random ≡ decideMessage (tables .connections) (tables .leases) time c random (decode m)
+      assessed-decision = ap (λ (x : Assessed). x .decision) (e ∙ where-passed h)

@@ -16,7 +16,7 @@ use Rattle.rules.specs.Searches.{anyFrom}
 use Rattle.rules.specs.Tables.{Tables, partnerOf, ownerOf, allowanceAt, idOf, liveWithId, bucketOf, clock}
 use Rattle.rules.specs.Leases.{idTaken, hasItsId, idElsewhere}
 use Rattle.rules.specs.Calls.{Call, timeOf, callerOf}
-use Rattle.rules.specs.Charges.{charged, cost, price, charge}
+use Rattle.rules.specs.Charges.{charged, price, charge}
 use Rattle.rules.specs.Checks.{check}
 use Rattle.rules.specs.Step.{outcome, done, step}
 use Rattle.rules.specs.Bytes.{SameAt}
@@ -25,7 +25,7 @@ use Rattle.rules.proofs.Records.{field-same}
 use Rattle.rules.proofs.Same.{same-put, records-to-bytes, bytes-to-records}
 use Rattle.rules.proofs.Searches.{any-passes, any-found, any-alike}
 use Rattle.noninterference.proofs.Reading.{by-both, InLeases, id-same, with-id-same}
-use Rattle.noninterference.proofs.SamePlans.{Alike, check-same, plan-same, sends-same}
+use Rattle.noninterference.proofs.SamePlans.{Alike, check-same, plan-same, price-same, sends-same}
 use Rattle.rules.proofs.Answers.{answer-is-check}
 use Rattle.rules.proofs.Metered.{clock-takes-time}
 
@@ -122,7 +122,7 @@ module _ (a b : Tables) (call : Call) (read : SameToRead (callerOf call) (timeOf
       rw (alike .allowance) (by-both (SameAt InAllowances) (charged call) _ refl (λ e. same-put s _ _) (λ e. s))
 
   pub reads-own : SameToCaller (callerOf call) (step a call) (step b call)
-  unfolding step done price
+  unfolding step done
   reads-own = rw (← check-same alike) (go (check a call) refl)
     where
       go : (n : ℕ) → check a call ≡ n → SameToCaller (callerOf call) (outcome n a call) (outcome n b call)
@@ -133,7 +133,7 @@ module _ (a b : Tables) (call : Call) (read : SameToRead (callerOf call) (timeOf
             own = record {
               connections = bytes-to-records connectionBytes (lit≤ tt) (λ c. Own (partnerOf c)) (x .connections);
               leases = bytes-to-records leaseBytes (lit≤ tt) (λ r. Own (ownerOf r)) (x .leases);
-              allowances = bytes-to-records allowanceBytes (lit≤ tt) Own (same-put (charge-same (cost call)) _ _);
+              allowances = bytes-to-records allowanceBytes (lit≤ tt) Own (same-put (rw (← price-same alike) (charge-same (price a call))) _ _);
             };
             clocks = clocked a call e ∙ sym (clocked b call (sym (check-same alike) ∙ e));
           }

@@ -14,8 +14,9 @@ use Rattle.rules.specs.Searches.{firstRow, endRow}
 use Rattle.rules.specs.Tables.{Tables, partnerOf, ownerOf, connectionAt, keysAt, bucketOf, clock, sized, peer, hasSession}
 use Rattle.rules.specs.Leases.{LeaseDecision, holdsLease, noSpareRow, cookieInUse, noFreeId, renewed, granted, firstFree, idTaken, idElsewhere, decideLease, leaseEnd, grant, renew, rowToExtend, release}
 use Rattle.rules.specs.Sessions.{EstablishDecision, refusedWith, establishedWith, decideEstablish, clear, await, join, leave, endSession, establish}
+use Rattle.rules.specs.Decisions.{decideMessage}
 use Rattle.rules.specs.Calls.{Call, opening, message, closing, keepalive, timeOf, connectionOf, callerOf}
-use Rattle.rules.specs.Plans.{Plan, doNothing, planOpen, planVersionAnswer, planLease, planExtension, planEstablish, planEnd, planData, planClose, planMessage, planKeepalive, planCall, answeredBy, heard, stamped, plan}
+use Rattle.rules.specs.Plans.{Plan, doNothing, planOpen, planVersionAnswer, planLease, planExtension, planEstablish, planEnd, planData, planClose, planDecided, planMessage, planKeepalive, planCall, answeredBy, heard, stamped, plan}
 use Rattle.rules.specs.Keepalives.{isDead, isDue, ask, answered, stamp}
 use Rattle.rules.specs.Charges.{price, callerLevel}
 use Rattle.rules.specs.Checks.{wrongTime, wrongState, notPermitted, noSession, aboveLevel, firstEight, checks, firstApplying, check}
@@ -91,7 +92,7 @@ module _
           rw (← lease-same Q P heads cs ds ls ms s t now c mine elsewhere random cookie e)
           (decided-lease (decideLease cs ls now c random cookie) refl)
 
-    extension-alike : (cookie : List ℕ) → Agree (planExtension a now c cookie) (planExtension b now c cookie)
+    extension-alike : (cookie : List ℕ) → Agree (planExtension a now c (rowToExtend ls now c cookie)) (planExtension b now c (rowToExtend ms now c cookie))
     unfolding planExtension
     extension-alike cookie =
         rw (← row-to-extend-same Q ls ms t now c mine cookie, ← until)
@@ -157,8 +158,8 @@ module _
         (λ u. nothing-alike))
 
     message-alike : (random : List ℕ) → firstFree ls now random ≡ firstFree ms now random → (o : Option Message)
-        → Agree (planMessage a now c (peer cs c) random o) (planMessage b now c (peer ds c) random o)
-    unfolding planMessage
+        → Agree (planMessage a now c random o) (planMessage b now c random o)
+    unfolding planMessage planDecided decideMessage
     message-alike random e (some (VersionAnswer ok)) = answer-alike ok
     message-alike random e (some LeaseRequest) = lease-alike random [] e
     message-alike random e (some (LeaseRequestWithCookie cookie)) = lease-alike random cookie e
@@ -272,22 +273,6 @@ module _ {Q P : ℕ → Type 0} {a b : Tables} {call : Call} (x : Alike Q P a b 
   unfolding sized
   sized-same = rw (x .sizes .connections, x .sizes .leases, x .sizes .allowances)
 
-  checks-same : checks a call ≡ checks b call
-  unfolding checks firstEight wrongTime aboveLevel price
-  checks-same =
-      rw (
-        sized-same,
-        x .clocks,
-        wrong-state-same Q P (x .heads) cs ds (x .connections) call (x .mine),
-        not-permitted-same Q P (x .heads) cs ds (x .connections) call (x .mine),
-        no-session-same Q P (x .heads) cs ds (x .connections) call (x .mine),
-        level-same,
-      )
-
-  pub check-same : check a call ≡ check b call
-  unfolding check
-  check-same = ap (firstApplying 1) checks-same
-
   plan-of : (k : Call) → Q (callerOf k) → timeOf k ≡ timeOf call → SamePlan Q P (planCall a k) (planCall b k)
   unfolding planCall
   plan-of (opening now c reply) q t =
@@ -304,3 +289,25 @@ module _ {Q P : ℕ → Type 0} {a b : Tables} {call : Call} (x : Alike Q P a b 
   pub plan-same : SamePlan Q P (plan a call) (plan b call)
   unfolding plan
   plan-same = marked-alike call (plan-of call (x .mine) refl)
+
+  -- what they send costs the same
+  pub price-same : price a call ≡ price b call
+  unfolding price
+  price-same = rw (plan-same .reply, plan-same .relay)
+
+  checks-same : checks a call ≡ checks b call
+  unfolding checks firstEight wrongTime aboveLevel
+  checks-same =
+      rw (
+        sized-same,
+        x .clocks,
+        wrong-state-same Q P (x .heads) cs ds (x .connections) call (x .mine),
+        not-permitted-same Q P (x .heads) cs ds (x .connections) call (x .mine),
+        no-session-same Q P (x .heads) cs ds (x .connections) call (x .mine),
+        level-same,
+        price-same,
+      )
+
+  pub check-same : check a call ≡ check b call
+  unfolding check
+  check-same = ap (firstApplying 1) checks-same

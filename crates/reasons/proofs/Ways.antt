@@ -12,7 +12,7 @@ use Rattle.octets.proofs.Tests.{both-left, both-right, and-false}
 use Rattle.allowance.specs.Meter.{verdict}
 use Rattle.rules.specs.Tables.{Tables}
 use Rattle.rules.specs.Calls.{Call}
-use Rattle.rules.specs.Charges.{charged, cost, price, callerLevel}
+use Rattle.rules.specs.Charges.{charged, price, callerLevel}
 use Rattle.rules.specs.Checks.{firstEight, precheck, check}
 use Rattle.rules.specs.Reasons.{undecided, asked, decided, headroom, explain}
 use Rattle.rules.proofs.Checks.{at-most, check-verdict}

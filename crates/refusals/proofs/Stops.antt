@@ -10,11 +10,12 @@ use lib.ListN.{length}
 use borrow.Author.Tests.{eqb-true, leb-false, le-leb, lt-leb, lt-ltb, le-ltb, ltb-false, eq-eqb, ne-eqb, not-false}
 use Rattle.octets.specs.Octets.{if_then_else_}
 use Rattle.octets.proofs.Tests.{both-left, both-right, either-false}
-use Rattle.rules.specs.Sizes.{connectionCount, connectionsSize, leasesSize, timeLimit, leastBuffer, callCost}
+use Rattle.rules.specs.Sizes.{connectionCount, connectionsSize, leasesSize, timeLimit, leastBuffer, openCost}
 use Rattle.rules.specs.Tables.{Tables, partnerOf, state, isClosed, sized, bucketOf, clock}
 use Rattle.allowance.specs.Bucket.{levelNow}
 use Rattle.rules.specs.Calls.{Call, opening, closing, keepalive, timeOf, connectionOf}
-use Rattle.rules.specs.Charges.{cost, price, callerLevel}
+use Rattle.rules.specs.Charges.{price, callerLevel}
+use Rattle.rules.proofs.Prices.{prices}
 use Rattle.rules.specs.Checks.{wrongSize, unknownConnection, wrongTime, wrongState, wrongLengths, notFromPeer, notPermitted, noSession, aboveLevel, pastLimit, firstApplying, firstEight, checks, check, checkStart}
 use Rattle.refusals.specs.Passed.{firstThree, Sized, Payable}
 
@@ -172,17 +173,17 @@ module _ (tables : Tables) (call : Call) (k : ℕ) (e : k ≡ check tables call)
 -- ---- open
 
 pub open-known : (tables : Tables) (time c : ℕ) (reply : List ℕ) (k : ℕ) → k ≡ check tables (opening time c reply) → k ≡ 0
-    → (Payable (tables .allowances) time c callCost) × (leastBuffer ≤ length reply)
-unfolding price cost wrongLengths
+    → (Payable (tables .allowances) time c openCost) × (leastBuffer ≤ length reply)
+unfolding wrongLengths
 open-known tables time c reply k e z =
-    (payable tables (opening time c reply) k e z, ltb-false _ _ (right-lengths tables (opening time c reply) k e z))
+    (rw (prices tables .open-price time c reply) at (payable tables (opening time c reply) k e z), ltb-false _ _ (right-lengths tables (opening time c reply) k e z))
 
 module _ (tables : Tables) (time c : ℕ) (reply : List ℕ) (k s : ℕ) (e : k ≡ firstThree tables time c) (z : k ≡ 0) (hs : s ≡ state (tables .connections) c) where
   go : check tables (opening time c reply)
       ≡ firstApplying 4
-      (not (eqb s 0) ∷ ltb (length reply) leastBuffer ∷ false ∷ false ∷ false ∷ ltb (levelNow (bucketOf (tables .allowances) (partnerOf c)) time) callCost ∷ [])
-  unfolding others wrongState wrongLengths notFromPeer notPermitted noSession aboveLevel callerLevel price cost
-  go = rw hs (three-go tables (opening time c reply) k e z)
+      (not (eqb s 0) ∷ ltb (length reply) leastBuffer ∷ false ∷ false ∷ false ∷ ltb (levelNow (bucketOf (tables .allowances) (partnerOf c)) time) openCost ∷ [])
+  unfolding others wrongState wrongLengths notFromPeer notPermitted noSession aboveLevel callerLevel
+  go = rw hs (three-go tables (opening time c reply) k e z ∙ rw (prices tables .open-price time c reply))
 
   pub open-wrong-state : (s ≡ 0 → ⊥) → 4 ≡ check tables (opening time c reply)
   unfolding firstApplying
@@ -194,13 +195,13 @@ module _ (tables : Tables) (time c : ℕ) (reply : List ℕ) (k s : ℕ) (e : k 
     open-wrong-lengths l = sym (go ∙ rw (eq-eqb s 0 h, lt-ltb (length reply) leastBuffer l))
 
     module _ (l : leastBuffer ≤ length reply) (level : ℕ) (hl : level ≡ levelNow (bucketOf (tables .allowances) (partnerOf c)) time) where
-      pub open-above-level : level < callCost → 9 ≡ check tables (opening time c reply)
+      pub open-above-level : level < openCost → 9 ≡ check tables (opening time c reply)
       unfolding firstApplying
-      open-above-level p = sym (go ∙ rw (eq-eqb s 0 h, le-ltb (length reply) leastBuffer l, ← hl, lt-ltb level callCost p))
+      open-above-level p = sym (go ∙ rw (eq-eqb s 0 h, le-ltb (length reply) leastBuffer l, ← hl, lt-ltb level openCost p))
 
-      pub open-passes : callCost ≤ level → 0 ≡ check tables (opening time c reply)
+      pub open-passes : openCost ≤ level → 0 ≡ check tables (opening time c reply)
       unfolding firstApplying
-      open-passes p = sym (go ∙ rw (eq-eqb s 0 h, le-ltb (length reply) leastBuffer l, ← hl, le-ltb level callCost p))
+      open-passes p = sym (go ∙ rw (eq-eqb s 0 h, le-ltb (length reply) leastBuffer l, ← hl, le-ltb level openCost p))
 
 -- ---- close
 
@@ -215,7 +216,7 @@ module _ (tables : Tables) (time c : ℕ) (relay : List ℕ) (k s : ℕ) (e : k 
   close-go : check tables (closing time c relay)
       ≡ firstApplying 4
       (eqb s 0 ∷ ltb (length relay) leastBuffer ∷ false ∷ false ∷ false ∷ ltb (levelNow (bucketOf (tables .allowances) (partnerOf c)) time) 0 ∷ [])
-  unfolding others wrongState wrongLengths notFromPeer notPermitted noSession aboveLevel callerLevel price cost
+  unfolding others wrongState wrongLengths notFromPeer notPermitted noSession aboveLevel callerLevel price
   close-go = rw hs (three-go tables (closing time c relay) k e z)
 
   pub close-wrong-state : s ≡ 0 → 4 ≡ check tables (closing time c relay)
@@ -271,11 +272,11 @@ module _ (tables : Tables) (time c : ℕ) (reply relay : List ℕ) (k : ℕ) (e 
       fiveChecks (wrongSize tables) (pastLimit time || ltb time (clock (tables .allowances))) (leb connectionCount c) (isClosed (tables .connections) c)
 
   as-close : check tables (closing time c relay) ≡ by-lengths (ltb (length relay) leastBuffer)
-  unfolding check checks firstEight wrongTime wrongState wrongLengths notFromPeer notPermitted noSession aboveLevel callerLevel price cost
+  unfolding check checks firstEight wrongTime wrongState wrongLengths notFromPeer notPermitted noSession aboveLevel callerLevel price
   as-close = rw free
 
   as-keepalive : check tables (keepalive time c reply relay) ≡ by-lengths (ltb (length reply) leastBuffer || ltb (length relay) leastBuffer)
-  unfolding check checks firstEight wrongTime wrongState wrongLengths notFromPeer notPermitted noSession aboveLevel callerLevel price cost
+  unfolding check checks firstEight wrongTime wrongState wrongLengths notFromPeer notPermitted noSession aboveLevel callerLevel price
   as-keepalive = rw free
 
   pub keepalive-stops : (k ≡ 0 → ⊥) → k ≡ check tables (keepalive time c reply relay)

@@ -30,7 +30,7 @@ pub fn refusal(
         return 5;
     }
     let partner = c as usize / rules::CONNECTIONS_PER_PARTNER;
-    if allowance_table::level(allowances, partner, time) < rules::CALL_COST {
+    if allowance_table::level(allowances, partner, time) < rules::OPEN_COST {
         return 9;
     }
     0

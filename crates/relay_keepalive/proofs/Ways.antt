@@ -8,7 +8,7 @@ use Rattle.octets.specs.Octets.{if_then_else_, put}
 use Rattle.svsc.specs.Messages.{Keepalive, encode}
 use Rattle.rules.specs.Tables.{lent, Tables, setClock}
 use Rattle.rules.specs.Keepalives.{isDead, isDue, ask, stamp}
-use Rattle.rules.specs.Charges.{cost, price, charge}
+use Rattle.rules.specs.Charges.{price, charge}
 use Rattle.rules.specs.Checks.{check}
 use Rattle.rules.specs.Calls.{keepalive}
 use Rattle.rules.specs.Plans.{Plan, replyOnly, disconnecting, planKeepalive, planCall, plan, planClose, doNothing}
@@ -73,7 +73,7 @@ module _ (tables : Tables) (time c : ℕ) (reply relay : List ℕ) (k : ℕ) (e 
       → cs″ ≡ stamp (stamp cs′ time (r .reply) c) time (r .relay) (r .destination)
       → al′ ≡ setClock (tables .allowances) time
       → result r (lent cs″ ls′ al′) reply′ relay′ ≡ shown (step tables (keepalive time c reply relay))
-  unfolding plan planCall charge price cost
+  unfolding plan planCall charge price
   keepalive-way cs′ cs″ ls′ al′ reply′ relay′ r h s p =
       done-way tables (keepalive time c reply relay) k e z (result r (lent cs″ ls′ al′) reply′ relay′)
       (marked-done tables (keepalive time c reply relay) (planKeepalive tables time c) cs′ cs″ ls′ al′ reply′ relay′ r h s p)

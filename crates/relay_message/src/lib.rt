@@ -23,7 +23,7 @@ pub extern "C" fn crondelith_message(
         ≡ shown (step (lent (now (connections .entry)) (now (leases .entry)) (now (allowances .entry)))
         (message time connection (now (m .entry)) (now (random .entry)) (now (reply .entry)) (now (relay .entry)))) ⌝ }
 {
-    let found = message_refusal::refusal(
+    let assessed = message_refusal::assess(
         connections,
         leases,
         allowances,
@@ -34,17 +34,18 @@ pub extern "C" fn crondelith_message(
         reply.len(),
         relay.len(),
     );
-    if found.number != 0 {
-        return answers::sent_nothing(found.number);
+    if assessed.number != 0 {
+        return answers::sent_nothing(assessed.number);
     }
     let c = connection as u8;
+    let decision = assessed.decision;
     let answer = dispatch::handle(
         connections,
         leases,
         allowances,
         time,
         c,
-        found.peer,
+        decision,
         m,
         random,
         reply,
@@ -59,6 +60,6 @@ pub extern "C" fn crondelith_message(
         answer.relay,
         answer.destination,
     );
-    charges::settle(allowances, time, c, m);
+    charges::settle(allowances, time, c, m, assessed.price);
     answer
 }

@@ -4,7 +4,7 @@ ghost use mathlib.Core.List.{List, []};
 ghost use Prim.Native.Nat.{ℕ, _≤_};
 ghost use lib.ListN.{length};
 ghost use Rattle.rules.specs.Tables.{lent};
-ghost use Rattle.rules.specs.Sizes.{callCost, leastBuffer};
+ghost use Rattle.rules.specs.Sizes.{openCost, leastBuffer};
 ghost use Rattle.rules.specs.Calls.{opening};
 ghost use Rattle.rules.specs.Plans.{plan};
 ghost use Rattle.rules.specs.Step.{step, done};
@@ -20,13 +20,13 @@ fn accept(
     c: u8,
     reply: &mut [u8],
 ) -> Answer
-    requires { ⌜ (Payable (now allowances) time c callCost) × (leastBuffer ≤ length (now reply)) ⌝ }
+    requires { ⌜ (Payable (now allowances) time c openCost) × (leastBuffer ≤ length (now reply)) ⌝ }
     ensures { λ r. ⌜ ((ls : List ℕ) → result r (lent (now (connections .exit)) ls (now (allowances .exit))) (now (reply .exit)) []
         ≡ shown (done (lent (now (connections .entry)) ls (now (allowances .entry))) (opening time c (now (reply .entry)))
         (plan (lent (now (connections .entry)) ls (now (allowances .entry))) (opening time c (now (reply .entry)))))) ⌝ }
 {
     connection_table::await_version(connections, c);
-    charges::pay(allowances, time, c, rules::CALL_COST);
+    charges::pay(allowances, time, c, rules::OPEN_COST);
     let sent = svsc_version_writers::svsc_write_version(reply, 1, 0);
     let answer = answers::replied(sent.length as u32);
     keepalives::sent(

@@ -1,13 +1,14 @@
--- Which calls are charged, and what each costs, in 01's numbers. Assumes nothing.
+-- Which calls are charged, and what each costs in history, in numbers. Assumes nothing.
 use Prim.Native.Nat.{ℕ, _+_}
 use mathlib.Core.Path.{_≡_, refl}
 use mathlib.Core.Logic.{_≢_, _↔_}
 use mathlib.Core.Bool.{true, false}
 use mathlib.Core.List.{List}
+use native.Mathlib.Omega.{arith}
 use lib.ListN.{length}
 use borrow.Author.Tests.{eq-eqb, ne-eqb}
 use Rattle.svsc.specs.Messages.{typeOf}
-use Rattle.rules.specs.Calls.{opening, message, closing, keepalive}
+use Rattle.rules.specs.Calls.{opening, message, closing, keepalive, Answer}
 use Rattle.rules.specs.Charges.{charged, received, cost}
 use Rattle.rules.proofs.Exactly.{eq-exactly, not-exactly}
 
@@ -25,26 +26,32 @@ close-free now c relay = refl
 pub keepalive-free : (now c : ℕ) (reply relay : List ℕ) → charged (keepalive now c reply relay) ≡ false
 keepalive-free now c reply relay = refl
 
--- "A message costs 32 plus its length; an open costs 32; SessionEnd, close .. cost nothing."
-pub open-cost : (now c : ℕ) (reply : List ℕ) → cost (opening now c reply) ≡ 32
-unfolding cost
-open-cost now c reply = refl
+-- 02, Item 5: "32 plus the bytes received plus the bytes that it puts into both trays", as the answer tells them. "SessionEnd, close and Item 3's call
+-- stay free."
+module _ (answer : Answer) where
+  abbrev sent : ℕ
+  sent = answer .replyLength + answer .relayLength
 
-pub message-cost : (now c : ℕ) (m random reply relay : List ℕ) → typeOf m ≢ 9 → cost (message now c m random reply relay) ≡ 32 + length m
-unfolding cost
-message-cost now c m random reply relay n = rw (ne-eqb (typeOf m) 9 n)
+  pub open-cost : (now c : ℕ) (reply : List ℕ) → cost (opening now c reply) answer ≡ 32 + sent
+  unfolding cost
+  open-cost now c reply = omega arith
 
-pub session-end-cost : (now c : ℕ) (m random reply relay : List ℕ) → typeOf m ≡ 9 → cost (message now c m random reply relay) ≡ 0
-unfolding cost
-session-end-cost now c m random reply relay e = rw (eq-eqb (typeOf m) 9 e)
+  pub message-cost : (now c : ℕ) (m random reply relay : List ℕ) → typeOf m ≢ 9
+      → cost (message now c m random reply relay) answer ≡ 32 + length m + sent
+  unfolding cost
+  message-cost now c m random reply relay n = rw (ne-eqb (typeOf m) 9 n) (omega arith)
 
-pub close-cost : (now c : ℕ) (relay : List ℕ) → cost (closing now c relay) ≡ 0
-unfolding cost
-close-cost now c relay = refl
+  pub session-end-cost : (now c : ℕ) (m random reply relay : List ℕ) → typeOf m ≡ 9 → cost (message now c m random reply relay) answer ≡ 0
+  unfolding cost
+  session-end-cost now c m random reply relay e = rw (eq-eqb (typeOf m) 9 e)
 
-pub keepalive-cost : (now c : ℕ) (reply relay : List ℕ) → cost (keepalive now c reply relay) ≡ 0
-unfolding cost
-keepalive-cost now c reply relay = refl
+  pub close-cost : (now c : ℕ) (relay : List ℕ) → cost (closing now c relay) answer ≡ 0
+  unfolding cost
+  close-cost now c relay = refl
+
+  pub keepalive-cost : (now c : ℕ) (reply relay : List ℕ) → cost (keepalive now c reply relay) answer ≡ 0
+  unfolding cost
+  keepalive-cost now c reply relay = refl
 
 -- nor does it receive anything
 pub keepalive-received : (now c : ℕ) (reply relay : List ℕ) → received (keepalive now c reply relay) ≡ 0

@@ -14,7 +14,7 @@ use Rattle.allowance.specs.Meter.{verdict}
 use Rattle.rules.specs.Sizes.{partners, connectionCount, connectionsSize, leasesSize, allowancesSize, timeLimit, randomBytes, leastBuffer}
 use Rattle.rules.specs.Tables.{Tables, opened, state, hasSession, clock, sized}
 use Rattle.rules.specs.Calls.{Call, opening, message, closing, keepalive, timeOf, connectionOf, callerOf}
-use Rattle.rules.specs.Charges.{charged, cost, price, callerLevel}
+use Rattle.rules.specs.Charges.{charged, price, callerLevel}
 use Rattle.rules.specs.Checks.{wrongTime, wrongLengths, notFromPeer, permits, notPermitted, noSession, aboveLevel, firstEight, checks, firstApplying, precheck, check}
 
 -- ---- the first that applies
@@ -95,7 +95,7 @@ verdict-decides (suc n) k level price = refl
 
 -- A call that is not charged costs nothing, so check 9 passes it.
 pub free-price : (tables : Tables) (call : Call) → charged call ≡ false → price tables call ≡ 0
-unfolding price cost
+unfolding price
 free-price tables call e = rw e
 
 above-level-charged : (tables : Tables) (call : Call)

@@ -16,7 +16,7 @@ use Rattle.rules.specs.Tables.{Tables, unansweredAt, keepaliveAt}
 use Rattle.rules.specs.Keepalives.{isDead, isDue, ask, stamp}
 use Rattle.rules.specs.Calls.{Call, closing, keepalive, Outcome, Answer}
 use Rattle.rules.specs.Plans.{Plan, replyOnly, doNothing, planClose, disconnecting, planKeepalive, planCall, stamped, plan}
-use Rattle.rules.specs.Charges.{cost, price, callerLevel, charge}
+use Rattle.rules.specs.Charges.{price, callerLevel, charge}
 use Rattle.rules.specs.Checks.{wrongTime, wrongState, wrongLengths, notFromPeer, notPermitted, noSession, aboveLevel, firstEight, checks, check}
 use Rattle.rules.specs.Step.{step, done}
 use Rattle.rules.specs.Effects.{Dead, Due, KeepaliveExactly, ClosedAsDead, Asked, Untouched}
@@ -68,7 +68,7 @@ module _ (tables : Tables) (now c : ℕ) (reply relay : List ℕ) (e : Accepted 
 
   -- a close passes the checks where the keepalive does
   close-passes : check tables (closing now c relay) ≡ check tables call
-  unfolding check checks firstEight wrongTime wrongState wrongLengths notFromPeer notPermitted noSession aboveLevel callerLevel price cost
+  unfolding check checks firstEight wrongTime wrongState wrongLengths notFromPeer notPermitted noSession aboveLevel callerLevel price
   close-passes =
       let room = keepalive-room tables now c reply relay (done-passed tables call e) in
       rw (le-ltb (length reply) leastBuffer (room .0))

@@ -14,7 +14,7 @@ use Rattle.rules.specs.Sizes.{partners, nobody}
 use Rattle.rules.specs.Tables.{Tables, allowanceAt, updatedAt, bucketBytes, setBucket, setClock, inSession, bucketOf, clock, fresh}
 use Rattle.rules.specs.Calls.{Call, timeOf, connectionOf, callerOf, Outcome}
 use Rattle.rules.specs.Plans.{planCall, plan}
-use Rattle.rules.specs.Charges.{charged, received, cost, price, charge}
+use Rattle.rules.specs.Charges.{charged, received, price, charge}
 use Rattle.rules.specs.Checks.{precheck, checkStart}
 use Rattle.rules.specs.Step.{step, done, start, started}
 use Rattle.rules.specs.Runs.{after, history}
@@ -148,7 +148,7 @@ module _ (tables : Tables) (call : Call) where
     pub charge-stored : charged call ≡ true
         → bucketOf (o .tables .allowances) (callerOf call)
         ≡ record {
-          level = levelNow (bucketOf (tables .allowances) (callerOf call)) (timeOf call) - cost call;
+          level = levelNow (bucketOf (tables .allowances) (callerOf call)) (timeOf call) - price tables call;
           updated = timeOf call;
         }
     unfolding price
@@ -182,8 +182,7 @@ module _ (lent : Tables) (now : ℕ) (e : start lent now .answer .number ≡ 0) 
       → (step (after made before) call .answer .number ≡ 9)
       ↔ ((precheck (after made before) call ≡ 0)
       × (charged call ≡ true)
-      × (levelFromHistory (callerOf call) (timeOf call) (history made before) < cost call))
-  unfolding price
+      × (levelFromHistory (callerOf call) (timeOf call) (history made before) < price (after made before) call))
   nine-exactly before call = relay-demand3 .every-run lent now e (before ++ (call ∷ [])) .refused-exactly before call [] refl
 
   -- The level in the table is the level from history, at any time not below the latest.
@@ -191,12 +190,12 @@ module _ (lent : Tables) (now : ℕ) (e : start lent now .answer .number ≡ 0) 
       → levelNow (bucketOf (after made calls .allowances) p) t ≡ levelFromHistory p t (history made calls)
   level-is calls = relay-demand3 .every-run lent now e calls .level
 
-  -- Refused with 9 and with no accepted charged call since, a partner is not refused with 9 two seconds of clock later.
+  -- Refused with 9 and with no accepted charged call since, a partner is not refused with 9 three seconds of clock later.
   pub not-nine-again : (before : List Call) (call : Call) (between : List Call) (again : Call)
       → step (after made before) call .answer .number ≡ 9
       → NonePaid (callerOf call) (history (after made before) (call ∷ between))
       → callerOf again ≡ callerOf call
-      → timeOf call + 2 ≤ timeOf again
+      → timeOf call + 3 ≤ timeOf again
       → step (after made (before ++ (call ∷ between))) again .answer .number ≢ 9
   not-nine-again before call between again =
       relay-demand3 .every-run lent now e (before ++ (call ∷ (between ++ (again ∷ [])))) .retry before call between again [] refl

@@ -18,6 +18,7 @@ pub mod Answers
 pub mod Decisions
 pub mod Leases
 pub mod Plans
+pub mod Prices
 pub mod Marks
 pub mod Within
 pub mod Sessions

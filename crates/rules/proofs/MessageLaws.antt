@@ -7,21 +7,21 @@ use mathlib.Core.Option.{some}
 use mathlib.Core.List.{List, [], _∷_}
 use native.Mathlib.Omega.{arith}
 use lib.Dec.{eqb, ltb, lit≤}
-use lib.ListN.{length, drop, length-append}
+use lib.ListN.{length, drop}
 use borrow.Author.Tests.{eq-eqb}
 use Rattle.octets.specs.Octets.{part, put}
 use Rattle.octets.proofs.Tests.{by-test}
-use Rattle.octets.proofs.Numbers.{length-bigEndian}
 use Rattle.octets.proofs.Parts.{length-part}
-use Rattle.svsc.specs.Messages.{Message, cookieBytes, VersionAnswer, LeaseGranted, ExtensionRequest, ExtensionGranted, EstablishRequest, EstablishRefused, Established, EstablishNotification, SessionEnd, DataSend, Keepalive, encode, typeOf, decode}
+use Rattle.svsc.specs.Messages.{Message, cookieBytes, VersionAnswer, LeaseGranted, ExtensionRequest, ExtensionGranted, EstablishRequest, EstablishRefused, SessionEnd, DataSend, Keepalive, encode, typeOf, decode}
 use Rattle.rules.specs.Sizes.{connectionCount, rowCount, randomBytes}
 use Rattle.rules.specs.Searches.{endRow}
 use Rattle.rules.specs.Tables.{Tables, partnerOf, connectionAt, opened, state, peer, inSession, hasSession, setState, idOf, cookieAt, cookieOf}
 use Rattle.rules.specs.Leases.{LeaseDecision, holdsLease, noSpareRow, cookieInUse, noFreeId, renewed, granted, decideLease, leaseEnd, rowToExtend}
 use Rattle.rules.specs.Sessions.{refusedWith, establishedWith, decideEstablish, clear, establish, endSession}
 use Rattle.rules.specs.Keepalives.{stamp}
+use Rattle.rules.specs.Decisions.{decideMessage}
 use Rattle.rules.specs.Calls.{Call, message, Outcome}
-use Rattle.rules.specs.Plans.{Plan, replyOnly, relayOnly, planVersionAnswer, planLease, planExtension, planEstablish, planEnd, planData, planMessage, planCall, heard, stamped, plan}
+use Rattle.rules.specs.Plans.{Plan, replyOnly, relayOnly, planVersionAnswer, planLease, planExtension, planEstablish, planEnd, planData, planDecided, planMessage, planCall, heard, stamped, plan}
 use Rattle.rules.specs.Checks.{precheck}
 use Rattle.rules.specs.Step.{step, done}
 use Rattle.rules.specs.Bytes.{ChangedOnly}
@@ -31,8 +31,9 @@ use Rattle.rules.proofs.Checks.{Passed, passed, from-peer, random-lengt
 use Rattle.rules.proofs.Records.{byte-put}
 use Rattle.rules.proofs.Messages.{decode-type, end-read, data-read, no-bytes}
 use Rattle.rules.proofs.Plans.{lease-plan}
+use Rattle.rules.proofs.Prices.{keys-length, told-length}
 use Rattle.rules.proofs.Answers.{is-done, done-passed}
-use Rattle.rules.proofs.Connections.{cleared-record, fresh-record, paired, end-clears-first, end-clears-second, all-keys}
+use Rattle.rules.proofs.Connections.{cleared-record, fresh-record, paired, end-clears-first, end-clears-second}
 use Rattle.rules.proofs.Rows.{expiry-set, granted-row, renewed-row}
 use Rattle.rules.proofs.Changes.{changed-more, changed-both, changed-state, changed-clear, changed-end, changed-expiry, changed-grant, changed-renew}
 use Rattle.rules.proofs.Same.{same-trans}
@@ -57,15 +58,6 @@ module _ (tables : Tables) (call : Call) (cs ls : List ℕ) where
   sent-nothing = record { answer = refl; reply = refl; relay = refl }
 
 -- the lengths of the two messages of a session that begins
-module _ (s p k : List ℕ) (hs : length s ≡ 16) (hp : length p ≡ 16) (hk : length k ≡ 16) where
-  keys-length : length (encode (EstablishNotification s p k)) ≡ 49
-  unfolding encode
-  keys-length = omega (arith, all-keys s p k hs hp hk)
-
-  told-length : (id : ℕ) → length (encode (Established id s p k)) ≡ 54
-  unfolding encode
-  told-length id = simp length-append (omega (arith, length-bigEndian 4 id))
-
 module _
     (tables : Tables) (now c : ℕ) (m random reply relay : List ℕ) (e : Accepted tables (message now c m random reply relay))
   where
@@ -91,7 +83,7 @@ module _
     marks x = stamped now c (heard sent x)
 
     -- the outcome, where the message is x
-    outcome-of : (x : Message) → decode m ≡ some x → o ≡ done tables sent (marks (planMessage tables now c (peer cs c) random (some x)))
+    outcome-of : (x : Message) → decode m ≡ some x → o ≡ done tables sent (marks (planMessage tables now c random (some x)))
     unfolding plan planCall
     outcome-of x d = is-done tables sent e ∙ rw d
 
@@ -102,7 +94,7 @@ module _
     -- ---- the version answer
 
     pub answered-ok : decode m ≡ some (VersionAnswer 1) → VersionTaken tables sent c o
-    unfolding done planMessage planVersionAnswer stamp
+    unfolding done planMessage planDecided decideMessage planVersionAnswer stamp
     answered-ok d =
         let opens = setState cs c opened in
         rw (outcome-of (VersionAnswer 1) d)
@@ -116,7 +108,7 @@ module _
         })
 
     pub answered-not-ok : decode m ≡ some (VersionAnswer 0) → VersionRefused tables sent c o
-    unfolding done put planMessage planVersionAnswer stamp
+    unfolding done put planMessage planDecided decideMessage planVersionAnswer stamp
     answered-not-ok d =
         rw (outcome-of (VersionAnswer 0) d)
         (record {
@@ -134,7 +126,7 @@ module _
 
     -- Data goes to the paired connection only.
     pub data-to-paired : typeOf m ≡ 11 → DataRelayed tables sent c (peer cs c) o (12 ∷ drop 1 m)
-    unfolding done planMessage planData encode stamp
+    unfolding done planMessage planDecided decideMessage planData encode stamp
     data-to-paired t =
         rw
         (outcome-of (DataSend (drop 1 m)) (data-read m (from-peer tables now c m random reply relay h) t))
@@ -148,7 +140,7 @@ module _
     pub keys-to-owners : (id : ℕ) → decode m ≡ some (EstablishRequest id)
         → (hold : ℕ) → decideEstablish cs ls now c id ≡ establishedWith hold
         → KeysToOwners tables sent c hold id random o
-    unfolding done planMessage planEstablish
+    unfolding done planMessage planDecided decideMessage planEstablish
     keys-to-owners id d hold s =
         let holding = is-established cs ls now c id hold s in
         let mine = callers-record cs c hold random (ok .connections) (ok .known) long holding in
@@ -185,7 +177,7 @@ module _
     pub establish-refused : (id : ℕ) → decode m ≡ some (EstablishRequest id)
         → (status : ℕ) → decideEstablish cs ls now c id ≡ refusedWith status
         → RepliedOnly sent o (encode (EstablishRefused id status)) × MarksOnly (InOwnMarks c) tables o
-    unfolding done planMessage planEstablish stamp
+    unfolding done planMessage planDecided decideMessage planEstablish stamp
     establish-refused id d status s =
         let told = length (encode (EstablishRefused id status)) in
         rw (outcome-of (EstablishRequest id) d, s)
@@ -193,7 +185,7 @@ module _
 
     -- Both sides of a session end, and the other is told.
     pub ended-both : typeOf m ≡ 9 → SessionEnded tables sent c (peer cs c) o (10 ∷ [])
-    unfolding done planMessage planEnd encode stamp
+    unfolding done planMessage planDecided decideMessage planEnd encode stamp
     ended-both t =
         let ended = endSession cs c (peer cs c) in
         let changed = marks-changed sent (planEnd tables c (peer cs c)) in
@@ -211,7 +203,7 @@ module _
 
     -- A keepalive is not answered, and of all records clears the one byte.
     pub keepalive-heard : decode m ≡ some Keepalive → SentNothing sent o false × MarksOnly (InUnanswered c) tables o
-    unfolding done planMessage stamp
+    unfolding done planMessage planDecided decideMessage stamp
     keepalive-heard d =
         rw (outcome-of Keepalive d) (sent-nothing tables sent _ ls, record { connections = changed-answered cs c; leases = refl })
 
@@ -224,7 +216,7 @@ module _
     lease-outcome : typeOf m ≡ 2 → o ≡ done tables sent (marks (planLease tables now c decision))
     unfolding plan planCall
     lease-outcome t =
-        is-done tables sent e ∙ ap (λ (x : Plan). done tables sent (marks x)) (lease-plan tables now c (peer cs c) m random (from-peer tables now c m random reply relay h) t)
+        is-done tables sent e ∙ ap (λ (x : Plan). done tables sent (marks x)) (lease-plan tables now c m random (from-peer tables now c m random reply relay h) t)
 
     until< : now + 3600 < 256 ^ 8
     until< = omega (arith, ok .in-limit)
@@ -292,7 +284,7 @@ module _
     -- An extension for which there is a row gives it an hour from now, and says so.
     pub extension-told : (cookie : List ℕ) → decode m ≡ some (ExtensionRequest cookie) → Extendable ls now c cookie
         → ExtensionTold tables sent (rowToExtend ls now c cookie) (now + 3600) c o (encode (ExtensionGranted (now + 3600)))
-    unfolding done planMessage planExtension leaseEnd stamp
+    unfolding done planMessage planDecided decideMessage planExtension leaseEnd stamp
     extension-told cookie d q =
         let found = extension-exactly ls now c cookie .1 q in
         let own = is-extended ls now c cookie found .0 in
@@ -309,7 +301,7 @@ module _
     -- Otherwise extended 0, and no row changes.
     pub extension-refused : (cookie : List ℕ) → decode m ≡ some (ExtensionRequest cookie) → (Extendable ls now c cookie → ⊥)
         → RepliedOnly sent o (5 ∷ 0 ∷ []) × MarksOnly (InOwnMarks c) tables o
-    unfolding done planMessage planExtension encode stamp
+    unfolding done planMessage planDecided decideMessage planExtension encode stamp
     extension-refused cookie d n =
         rw (outcome-of (ExtensionRequest cookie) d, none)
         (replied tables sent _ ls _, record { connections = own-marks cs now c 2; leases = refl })

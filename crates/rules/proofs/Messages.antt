@@ -198,10 +198,42 @@ module _ (m : List ℕ) where
       go (suc zero) l e = inr e
       go (suc (suc ok)) l e = absurd (omega arith)
 
-  -- an establish request
+  -- their lengths
+  pub answer-length : fromPeer m ≡ true → typeOf m ≡ 1 → length m ≡ 2
+  unfolding readings
+  answer-length h t =
+      let test = eqb (length m) 2 && leb (byteAt m 1) 1 in
+      eqb-true (length m) 2 (both-left _ _ (fits-read 1 test (VersionAnswer (byteAt m 1)) h t refl))
+
+  one-fits : (a b : Bool) (x y : Message) → isSome (when a x orElse when b y) ≡ true → (a ≡ true) ⊎ (b ≡ true)
+  one-fits true b x y h = inl refl
+  one-fits false true x y h = inr refl
+  one-fits false false x y h = absurd (false≢true h)
+
+  pub lease-length : fromPeer m ≡ true → typeOf m ≡ 2 → (length m ≡ 2) ⊎ (length m ≡ 26)
+  unfolding fromPeer decode readings
+  lease-length h t =
+      let e = ap (λ (i : ℕ). getD (readings m) i none) t in
+      let known = ap isSome (sym e) ∙ both-right (getD sentByPeers (typeOf m) false) (isSome (decode m)) h in
+      ⊎-elim (λ s. inl (eqb-true (length m) 2 (both-left _ _ s))) (λ s. inr (eqb-true (length m) 26 (both-left _ _ s)))
+      (one-fits
+      (eqb (length m) 2 && eqb (byteAt m 1) 0)
+      (eqb (length m) 26 && eqb (byteAt m 1) 1)
+      LeaseRequest
+      (LeaseRequestWithCookie (part m 2 24))
+      known)
+
+  pub extension-length : fromPeer m ≡ true → typeOf m ≡ 4 → length m ≡ 25
+  unfolding readings
+  extension-length h t = eqb-true (length m) 25 (fits-read 4 (eqb (length m) 25) (ExtensionRequest (part m 1 24)) h t refl)
+
   pub establish-length : fromPeer m ≡ true → typeOf m ≡ 6 → length m ≡ 5
   unfolding readings
   establish-length h t = eqb-true (length m) 5 (fits-read 6 (eqb (length m) 5) (EstablishRequest (numberAt m 1 4)) h t refl)
+
+  pub keepalive-length : fromPeer m ≡ true → typeOf m ≡ 13 → length m ≡ 1
+  unfolding readings
+  keepalive-length h t = eqb-true (length m) 1 (fits-read 13 (eqb (length m) 1) Keepalive h t refl)
 
   -- Each type that peers send has its form.
   pub by-type : fromPeer m ≡ true → ByType m

@@ -1,5 +1,5 @@
 -- The relay is metered as 01 says. Assumes nothing.
-use Prim.Native.Nat.{ℕ, _+_, _*_, _≤_, _<_, min}
+use Prim.Native.Nat.{ℕ, _*_, _≤_, _<_, min}
 use mathlib.Core.Path.{_≡_, refl, sym, ap, _∙_}
 use mathlib.Core.Bool.{Bool, true, false, cond, _&&_}
 use mathlib.Core.List.{List}
@@ -10,19 +10,18 @@ use lib.ListN.{length}
 use borrow.Author.Tests.{eqb-true, eqb-false}
 use Rattle.octets.proofs.Stores.{length-put}
 use Rattle.octets.specs.Octets.{if_then_else_}
-use Rattle.svsc.specs.Messages.{longestMessage}
 use Rattle.allowance.specs.Bucket.{capacity, refillRate, Bucket, spend}
 use Rattle.allowance.specs.Meter.{Metered}
 use Rattle.allowance.proofs.Numbers.{level≤capacity}
-use Rattle.rules.specs.Sizes.{partners, allowancesSize, callCost, retryAfter, timeLimit}
+use Rattle.rules.specs.Sizes.{partners, allowancesSize, retryAfter, timeLimit}
 use Rattle.rules.specs.Tables.{Tables, bucketOf, clock, setBucket, setClock, allowanceAt, bucketBytes}
-use Rattle.rules.specs.Calls.{Call, opening, message, closing, keepalive, timeOf, callerOf, Outcome}
-use Rattle.rules.specs.Charges.{charged, received, cost, price, callerLevel, charge}
+use Rattle.rules.specs.Calls.{Call, timeOf, callerOf, Outcome}
+use Rattle.rules.specs.Charges.{charged, cost, price, callerLevel, charge}
 use Rattle.rules.specs.Checks.{precheck, firstEight}
 use Rattle.rules.specs.Step.{step, done}
 use Rattle.rules.specs.Runs.{relayMeter}
-use Rattle.rules.proofs.Checks.{at-most, check-verdict, Passed, passed, from-peer}
-use Rattle.rules.proofs.Messages.{peer-length}
+use Rattle.rules.proofs.Checks.{at-most, check-verdict, Passed, passed}
+use Rattle.rules.proofs.Prices.{prices}
 use Rattle.rules.proofs.Allowances.{bucket-set, bucket-other, bucket-clocked, clock-set}
 use Rattle.rules.proofs.Answers.{answer-is-check, refused-leaves-all, is-done, done-passed}
 
@@ -64,23 +63,9 @@ module _ (al : List ℕ) (call : Call) (amount : ℕ) where
 
 -- ---- the price
 
--- The dearest call costs 32 and the length of the longest message: two seconds refill more than that.
-dearest : callCost + longestMessage ≤ min capacity (refillRate * retryAfter)
+-- Three seconds refill more than the dearest call costs.
+dearest : 131100 ≤ min capacity (refillRate * retryAfter)
 dearest = lit≤ tt
-
-pub price-most : (tables : Tables) (call : Call) → precheck tables call ≡ 0 → price tables call ≤ callCost + longestMessage
-unfolding price cost
-price-most tables call h = go (charged call) (most call h)
-  where
-    go : (k : Bool) → received call ≤ longestMessage → (if k then callCost + received call else 0) ≤ callCost + longestMessage
-    go true l = omega arith
-    go false l = omega arith
-
-    most : (call : Call) → precheck tables call ≡ 0 → received call ≤ longestMessage
-    most (opening now c reply) h = lit≤ tt
-    most (message now c m random reply relay) h = peer-length m (from-peer tables now c m random reply relay h)
-    most (closing now c relay) h = lit≤ tt
-    most (keepalive now c reply relay) h = lit≤ tt
 
 -- ---- one call
 
@@ -115,14 +100,20 @@ module _ (tables : Tables) (call : Call) (e : step tables call .answer .number �
       (bucket-clocked charged-table (timeOf call) p p<
       ∙ bucket-charge (tables .allowances) call (price tables call) (ok .allowances) (ok .of-partner) (ok .in-limit) p)
 
+-- The bytes of the plan's two messages are those that the answer tells.
+pub charged-as-told : (tables : Tables) (call : Call) → step tables call .answer .number ≡ 0
+    → cost call (step tables call .answer) ≡ price tables call
+unfolding cost price done
+charged-as-told tables call e = rw (is-done tables call e)
+
 pub relay-metered : Metered relayMeter
 relay-metered = record {
   eight = λ tables call. unfold precheck firstEight in at-most 0 (firstEight tables call);
   decided = λ tables call. unfold callerLevel in answer-is-check tables call ∙ check-verdict tables call;
   in-order = λ tables call h. passed tables call h .in-order;
   of-partner = λ tables call h. passed tables call h .of-partner;
-  payable = λ tables call h k. omega (arith, price-most tables call h, dearest);
-  price-cost = λ tables call h. unfold price in refl;
+  payable = λ tables call h k. omega (arith, prices tables .most call h, dearest);
+  price-cost = charged-as-told;
   refused = λ tables call n. ap (λ (o : Outcome). o .tables) (refused-leaves-all tables call n);
   clocked = clock-takes-time;
   stored = bucket-stored;

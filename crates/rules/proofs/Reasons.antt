@@ -21,12 +21,13 @@ use Rattle.allowance.specs.Bucket.{capacity, refillRate, levelNow}
 use Rattle.allowance.specs.Meter.{verdict}
 use Rattle.allowance.proofs.Numbers.{verdict-nine, nine-verdict, zero-verdict}
 use Rattle.rules.specs.Sizes.{partners, allowancesSize}
-use Rattle.rules.specs.Tables.{Tables, allowanceAt, updatedAt, bucketOf, clock, sized}
+use Rattle.rules.specs.Tables.{Tables, lent, allowanceAt, updatedAt, bucketOf, clock, sized}
 use Rattle.rules.specs.Leases.{LeaseDecision, holdsLease, noSpareRow, cookieInUse, noFreeId, renewed, granted, decideLease}
 use Rattle.rules.specs.Sessions.{EstablishDecision, refusedWith, establishedWith, decideEstablish}
+use Rattle.rules.specs.Decisions.{decideMessage}
 use Rattle.rules.specs.Calls.{Call, opening, message, closing, keepalive, timeOf, callerOf, replyBuffer}
-use Rattle.rules.specs.Plans.{planLease, planEstablish, planMessage, planCall, plan}
-use Rattle.rules.specs.Charges.{charged, cost, price, callerLevel}
+use Rattle.rules.specs.Plans.{planLease, planEstablish, planDecided, planMessage, planCall, plan}
+use Rattle.rules.specs.Charges.{charged, price, callerLevel}
 use Rattle.rules.specs.Checks.{wrongTime, wrongState, wrongLengths, notFromPeer, notPermitted, noSession, aboveLevel, firstEight, checks, precheck, check}
 use Rattle.rules.specs.Step.{step, done}
 use Rattle.rules.specs.Reasons.{conditionOf, statusOf, Decided, undecided, ofLease, ofEstablish, asked, decided, headroom, explain}
@@ -40,7 +41,8 @@ use Rattle.rules.proofs.Checks.{none-applies, all-pass, at-most, check-
 use Rattle.rules.proofs.Answers.{answer-is-check, is-done, done-passed}
 use Rattle.rules.proofs.Leases.{first-failing, statuses}
 use Rattle.rules.proofs.Room.{messages-fit}
-use Rattle.rules.proofs.Metered.{price-most, bucket-stored}
+use Rattle.rules.proofs.Prices.{message-price, prices}
+use Rattle.rules.proofs.Metered.{bucket-stored}
 use Rattle.rules.proofs.Refusals.{fails}
 use Rattle.rules.proofs.Changes.{changed-at}
 
@@ -134,7 +136,7 @@ module _ (tables : Tables) (now c : ℕ) (m random reply relay : List ℕ) where
 
   plan-lease : Accepted tables sent → typeOf m ≡ 2 → planCall tables sent ≡ planLease tables now c lease-decision
   unfolding planCall
-  plan-lease e t = lease-plan tables now c _ m random (from-peer tables now c m random reply relay (done-passed tables sent e)) t
+  plan-lease e t = lease-plan tables now c m random (from-peer tables now c m random reply relay (done-passed tables sent e)) t
 
   -- byte 1 of the reply, by what was decided
   told-lease : (d : LeaseDecision) → (1 < length (planLease tables now c d .reply))
@@ -173,7 +175,7 @@ module _ (tables : Tables) (now c : ℕ) (m random reply relay : List ℕ) where
       (chosen-establish (eqb (typeOf m) 2) (eqb (typeOf m) 6) _ _)
 
   plan-establish : Accepted tables sent → typeOf m ≡ 6 → planCall tables sent ≡ planEstablish tables c id random (decideEstablish cs ls now c id)
-  unfolding planCall planMessage
+  unfolding planCall planMessage planDecided decideMessage
   plan-establish e t = rw (by-type m (from-peer tables now c m random reply relay (done-passed tables sent e)) .six t)
 
   -- byte 5 of the reply is the status
@@ -225,7 +227,7 @@ nothing-named tables call = (
 
 -- Of the buffers only the lengths count.
 pub lengths-only : (tables : Tables) (now c : ℕ) (m random : List ℕ) → LengthsOnly tables now c m random
-unfolding explain decided asked headroom price cost callerLevel check checks precheck firstEight wrongTime wrongState wrongLengths notFromPeer notPermitted noSession aboveLevel
+unfolding explain decided asked headroom price plan planCall callerLevel check checks precheck firstEight wrongTime wrongState wrongLengths notFromPeer notPermitted noSession aboveLevel
 lengths-only tables now c m random = record {
   open-alike = λ reply other e. rw e;
   message-alike = λ reply relay otherReply otherRelay e f. rw (e, f);
@@ -350,6 +352,25 @@ stored-most : (stored refill : ℕ) → min capacity (min capacity stored + refi
     → stored ≤ min capacity (min capacity stored + refill)
 stored-most stored refill h = omega arith
 
+-- What a call sends is decided by the other two tables.
+price-alike : (tables : Tables) (al : List ℕ) (call : Call) → precheck tables call ≡ 0
+    → precheck (lent (tables .connections) (tables .leases) al) call ≡ 0
+    → price (lent (tables .connections) (tables .leases) al) call ≡ price tables call
+price-alike tables al (opening now c reply) h k = prices _ .open-price now c reply ∙ sym (prices tables .open-price now c reply)
+price-alike tables al (message now c m random reply relay) h k = go (ℕ-discrete (typeOf m) 9)
+  where
+    other : Tables
+    other = lent (tables .connections) (tables .leases) al
+
+    go : Dec (typeOf m ≡ 9) → price other (message now c m random reply relay) ≡ price tables (message now c m random reply relay)
+    go (yes t) =
+        prices other .message-prices now c m random reply relay k .session-end t
+        ∙ sym (prices tables .message-prices now c m random reply relay h .session-end t)
+    go (no n) = message-price other now c m random reply relay k n ∙ sym (message-price tables now c m random reply relay h n)
+price-alike tables al (closing now c relay) h k = prices _ .close-price now c relay ∙ sym (prices tables .close-price now c relay)
+price-alike tables al (keepalive now c reply relay) h k =
+    prices _ .keepalive-price now c reply relay ∙ sym (prices tables .keepalive-price now c reply relay)
+
 module _ (tables : Tables) (call : Call) (h : precheck tables call ≡ 0) (k : ℕ) where
   open Tables tables using (allowances as al)
 
@@ -391,8 +412,8 @@ module _ (tables : Tables) (call : Call) (h : precheck tables call ≡ 0) (k : �
 
     pub credited-answer : step richer call .answer .number
         ≡ verdict (precheck richer call) (charged call) (callerLevel al call + k) (price tables call)
-    unfolding price
-    credited-answer = answer-is-check richer call ∙ check-verdict richer call ∙ rw level-credited
+    unfolding credited
+    credited-answer = answer-is-check richer call ∙ check-verdict richer call ∙ rw (level-credited, price-alike tables _ call h precheck-credited)
 
 module _ (tables : Tables) (call : Call) where
   short-is : (n : ℕ) → explain tables call .headroom ≡ some (negsuc n) → ShortBy tables call (n + 1)
@@ -408,7 +429,7 @@ module _ (tables : Tables) (call : Call) where
       short = is-below has (price tables call) n (is .1 .1)
 
       most : price tables call ≤ capacity
-      most = omega (arith, price-most tables call (is .0))
+      most = omega (arith, prices tables .most call (is .0))
 
       answer : (k : ℕ) → k ≤ n + 1
           → step (credited tables (callerOf call) k) call .answer .number
@@ -426,11 +447,11 @@ module _ (tables : Tables) (call : Call) where
           ∙ nine-verdict _ _ _ _ (precheck-credited tables call (is .0) k) (is .1 .0) (omega (arith, short))
 
   pub headroom-exactly : HeadroomExactly tables call
-  unfolding callerLevel price
+  unfolding callerLevel
   headroom-exactly = record {
     there = (
       (λ q. let is = known tables call (q .0) (q .1) in (eight-pass tables call .0 (is .0), is .1 .0)),
-      (λ q. (pos (level tables call) -ℤ pos (cost call), headroom-is tables call (eight-pass tables call .1 (q .0)) (q .1))),
+      (λ q. (pos (level tables call) -ℤ pos (price tables call), headroom-is tables call (eight-pass tables call .1 (q .0)) (q .1))),
     );
     difference = λ z h. sym (known tables call z h .1 .1);
     negative = negative-exactly tables call;

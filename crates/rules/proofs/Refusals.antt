@@ -16,7 +16,7 @@ use Rattle.svsc.specs.Messages.{Message, sentByPeers, typeOf, isSome, decode, f
 use Rattle.rules.specs.Sizes.{connectionCount, connectionsSize, leasesSize, allowancesSize, timeLimit, randomBytes, leastBuffer}
 use Rattle.rules.specs.Tables.{Tables, closed, state, inSession, hasSession, clock, sized}
 use Rattle.rules.specs.Calls.{Call, opening, message, closing, keepalive, timeOf, connectionOf, Answer}
-use Rattle.rules.specs.Charges.{cost, price, callerLevel}
+use Rattle.rules.specs.Charges.{price, callerLevel}
 use Rattle.rules.specs.Checks.{wrongTime, wrongState, wrongLengths, notFromPeer, permitted, permits, notPermitted, noSession, aboveLevel, firstEight, checks, firstApplying, check, checkStart}
 use Rattle.rules.specs.Step.{step, start, started}
 use Rattle.rules.specs.Refusals.{Applies, RightSizes, isOneOf, permittedTypes, InWrongState, OfWrongLengths, SentByPeer, NotSentByPeer, NotPermittedHere, WithoutSession, EachExactly, StartExactly}
@@ -133,7 +133,7 @@ module _ (tables : Tables) where
   without-exactly (keepalive now c reply relay) = never
 
   pub each-exactly : (call : Call) → EachExactly tables call
-  unfolding checks firstEight wrongTime aboveLevel callerLevel price
+  unfolding checks firstEight wrongTime aboveLevel callerLevel
   each-exactly call = record {
     one = not-exactly (sized tables) (right-sizes tables);
     two = or-exactly _ _ (le-exactly timeLimit (timeOf call)) (lt-exactly (timeOf call) (clock (tables .allowances)));
@@ -143,7 +143,7 @@ module _ (tables : Tables) where
     six = peer-exactly call;
     seven = permitted-exactly call;
     eight = without-exactly call;
-    nine = lt-exactly _ (cost call);
+    nine = lt-exactly _ (price tables call);
   }
 
 -- ---- "the first that applies decides"

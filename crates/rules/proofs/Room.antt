@@ -63,10 +63,10 @@ module _ (tables : Tables) (now c n : ℕ) where
       (λ row id drawn e.
       granted-fits _ _ _ _ (rw (is-granted ls now c random cs cookie row id drawn e .cookie-is) (length-part-most random 0 cookieBytes)))
 
-  extension-fits : (cookie : List ℕ) → Fits n (planExtension tables now c cookie)
+  extension-fits : (row : ℕ) → Fits n (planExtension tables now c row)
   unfolding planExtension encode bigEndian
-  extension-fits cookie =
-      by-test (Fits n) (ltb (rowToExtend ls now c cookie) (endRow (partnerOf c)))
+  extension-fits row =
+      by-test (Fits n) (ltb row (endRow (partnerOf c)))
       (λ h. small (lit≤ tt) (lit≤ tt))
       (λ h. small (lit≤ tt) (lit≤ tt))
 
@@ -93,7 +93,7 @@ module _ (tables : Tables) (now c n : ℕ) where
     open-plan = small (lit≤ tt) (lit≤ tt);
     version-answer = λ t. answer-fits;
     lease = lease-fits;
-    extension = extension-fits;
+    extension = λ cookie. extension-fits (rowToExtend ls now c cookie);
     establish-plan = λ id random long o. establish-fits id random (decideEstablish cs ls now c id);
     end-plan = λ h. small (lit≤ tt) (lit≤ tt);
     data-plan = λ h bytes l. record { reply-fits = lit≤ tt; relay-fits = omega arith };

@@ -128,10 +128,9 @@ module _ (tables : Tables) (now c : ℕ) (size : length (tables .connections) �
   lease-relays d =
       by-lease Relays tables now c d (silent _ _ _ _) (λ row e. silent _ _ _ _) (λ row id cookie e. silent _ _ _ _)
 
-  extension-relays : (cookie : List ℕ) → Relays (planExtension tables now c cookie)
+  extension-relays : (row : ℕ) → Relays (planExtension tables now c row)
   unfolding planExtension
-  extension-relays cookie =
-      by-test Relays (ltb (rowToExtend ls now c cookie) (endRow (partnerOf c))) (λ h. silent _ _ _ _) (λ h. silent _ _ _ _)
+  extension-relays row = by-test Relays (ltb row (endRow (partnerOf c))) (λ h. silent _ _ _ _) (λ h. silent _ _ _ _)
 
   establish-relays : (id : ℕ) (random : List ℕ) → length random ≡ randomBytes → isOpen cs c ≡ true
       → (d : EstablishDecision) → decideEstablish cs ls now c id ≡ d → Relays (planEstablish tables c id random d)
@@ -171,7 +170,7 @@ module _ (tables : Tables) (now c : ℕ) (size : length (tables .connections) �
     open-plan = silent _ _ _ _;
     version-answer = λ t. answer-relays;
     lease = λ random cookie. lease-relays (decideLease cs ls now c random cookie);
-    extension = extension-relays;
+    extension = λ cookie. extension-relays (rowToExtend ls now c cookie);
     establish-plan = λ id random long o. establish-relays id random long o (decideEstablish cs ls now c id) refl;
     end-plan = end-relays;
     data-plan = λ h bytes l. data-relays h bytes;

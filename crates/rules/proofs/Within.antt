@@ -81,7 +81,7 @@ module _ (tables : Tables) (now c : ℕ) where
       (kept-grant ls row (leaseEnd al now) id drawn c (λ n. n (g .own .owner))
       (rw (g .cookie-is) (length-part-most random 0 cookieBytes))))
 
-  extension-within : (cookie : List ℕ) → Within (planExtension tables now c cookie)
+  extension-within : (cookie : List ℕ) → Within (planExtension tables now c (rowToExtend ls now c cookie))
   unfolding planExtension
   extension-within cookie =
       by-test Within (ltb (rowToExtend ls now c cookie) (endRow (partnerOf c)))

@@ -1,4 +1,4 @@
--- What a call costs, what it is charged, and the allowances after it (01, "Charges").
+-- What a call costs, what it is charged, and the allowances after it (01, "Charges"; 02, Item 5).
 use Prim.Native.Nat.{ℕ, _+_}
 use mathlib.Core.Bool.{Bool, true, false, not}
 use mathlib.Core.List.{List}
@@ -9,7 +9,8 @@ use Rattle.svsc.specs.Messages.{typeOf}
 use Rattle.allowance.specs.Bucket.{levelNow, spend}
 use Rattle.rules.specs.Sizes.{callCost}
 use Rattle.rules.specs.Tables.{Tables, bucketOf, setBucket}
-use Rattle.rules.specs.Calls.{Call, opening, message, closing, keepalive, callerOf, timeOf}
+use Rattle.rules.specs.Calls.{Call, opening, message, closing, keepalive, callerOf, timeOf, Answer}
+use Rattle.rules.specs.Plans.{plan}
 
 -- "Opens and messages other than SessionEnd are charged, each by its cost"; 02, Item 3: "A new host call .., free of charge"
 abbrev pub charged : Call → Bool
@@ -25,14 +26,19 @@ received (message now c m random reply relay) = length m
 received (closing now c relay) = 0
 received (keepalive now c reply relay) = 0
 
--- "A message costs 32 plus its length; an open costs 32; SessionEnd, close and making a fresh relay cost nothing."
-unfoldable pub cost : Call → ℕ
-cost call = if charged call then callCost + received call else 0
+-- 02, Item 5: "The cost of a charged call becomes 32 plus the bytes received plus the bytes that it puts into both trays if done." "SessionEnd,
+-- close and Item 3's call stay free."
+abbrev pub costWith : Call → ℕ → ℕ → ℕ
+costWith call replied relayed = if charged call then callCost + received call + replied + relayed else 0
 
--- what check 9 compares with the level, and what a done call is charged: the cost, of every call on any tables (law `price-is-cost`). Only
--- `cost` stands in history, which sees no table
+-- in history, which sees no table: by the two byte counts of the answer
+unfoldable pub cost : Call → Answer → ℕ
+cost call answer = costWith call (answer .replyLength) (answer .relayLength)
+
+-- before the call is done, by its plan: what check 9 compares with the level, and what a done call is charged. It is the cost of every call that
+-- is done (law `price-is-cost`).
 unfoldable pub price : Tables → Call → ℕ
-price tables call = cost call
+price tables call = costWith call (length (plan tables call .reply)) (length (plan tables call .relay))
 
 -- what the caller's partner has at the time of the call
 unfoldable pub callerLevel : List ℕ → Call → ℕ

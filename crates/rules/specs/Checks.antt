@@ -5,10 +5,9 @@ use mathlib.Core.Bool.{Bool, true, false, not, _&&_, _||_}
 use mathlib.Core.List.{List, [], _∷_, _++_}
 use lib.ListN.{length, getD}
 use lib.Dec.{eqb, leb, ltb}
-use Rattle.octets.specs.Octets.{if_then_else_}
 use Rattle.svsc.specs.Messages.{typeOf, fromPeer}
-use Rattle.rules.specs.Sizes.{connectionCount, timeLimit, randomBytes, leastBuffer, nobody}
-use Rattle.rules.specs.Tables.{Tables, state, isClosed, peer, hasSession, clock, sized}
+use Rattle.rules.specs.Sizes.{connectionCount, timeLimit, randomBytes, leastBuffer}
+use Rattle.rules.specs.Tables.{Tables, state, isClosed, hasSession, clock, sized}
 use Rattle.rules.specs.Calls.{Call, opening, message, closing, keepalive, timeOf, connectionOf}
 use Rattle.rules.specs.Charges.{price, callerLevel}
 
@@ -78,7 +77,8 @@ noSession cs (message now c m random reply relay) = needsSession (typeOf m) && n
 noSession cs (closing now c relay) = false
 noSession cs (keepalive now c reply relay) = false
 
--- 9: "the charge exceeds the partner's level"; "Equal cost and level passes."
+-- 9: "the charge exceeds the partner's level"; "Equal cost and level passes." The charge is that of the call's plan: checks 1 to 8, plan, price,
+-- check 9.
 unfoldable pub aboveLevel : Tables → Call → Bool
 aboveLevel tables call = ltb (callerLevel (tables .allowances) call) (price tables call)
 
@@ -109,16 +109,6 @@ precheck tables call = firstApplying 1 (firstEight tables call)
 
 unfoldable pub check : Tables → Call → ℕ
 check tables call = firstApplying 1 (checks tables call)
-
--- 02, Item 4: "a send looks its session up once, before copying". What check 8 finds of a message that it looks the session up for and lets
--- pass: the other connection; else 255.
-unfoldable pub found : Tables → Call → ℕ
-found tables (opening now c reply) = nobody
-found tables (message now c m random reply relay) =
-    if eqb (precheck tables (message now c m random reply relay)) 0 && needsSession (typeOf m) then peer (tables .connections) c
-    else nobody
-found tables (closing now c relay) = nobody
-found tables (keepalive now c reply relay) = nobody
 
 -- "Making a fresh relay has checks 1 and 2 and no trays."
 unfoldable pub checkStart : Tables → ℕ → ℕ

@@ -7,15 +7,15 @@ use Rattle.allowance.specs.Meter.{Claim}
 use Rattle.rules.specs.Tables.{Tables}
 use Rattle.rules.specs.Calls.{Call}
 use Rattle.rules.specs.Charges.{cost, price}
-use Rattle.rules.specs.Step.{start}
+use Rattle.rules.specs.Step.{step, start}
 use Rattle.rules.specs.Runs.{relayMeter, history}
 
 -- `Claim` (allowance, specs/Meter) has a field for each sentence of the demand and of 01, "Charges"; `relayMeter` says what its words
 -- mean: the level is `levelNow` of the partner's allowance record, an answer is that of `step`, "every earlier check" is `precheck`,
--- checks 1 to 8, a charged call's price is its `cost`, 32 and the bytes received, and any call can be paid after two seconds.
+-- checks 1 to 8, what a call costs is its `price` before it is done and its `cost` in history, and any call can be paid after three seconds.
 pub record RelayDemand3 : Type 0 where
-  -- What is compared with the level, and what is charged, is 01's cost, of every call on any tables.
-  pub price-is-cost : (tables : Tables) (call : Call) → price tables call ≡ cost call
+  -- What is compared with the level, and what is charged, is the cost that stands in history, of every call that is done.
+  pub price-is-cost : (tables : Tables) (call : Call) → step tables call .answer .number ≡ 0 → price tables call ≡ cost call (step tables call .answer)
   -- "A run is a fresh start answered with 0 and then any list of opens, messages and closes, refused ones included.", and of keepalives
   pub every-run : (lent : Tables) (now : ℕ) → start lent now .answer .number ≡ 0 → (calls : List Call)
       → Claim relayMeter (start lent now .tables) now calls

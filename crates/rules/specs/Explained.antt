@@ -15,7 +15,7 @@ use Rattle.rules.specs.Leases.{LeaseDecision, decideLease}
 use Rattle.rules.specs.Sessions.{EstablishDecision, rowOfId, decideEstablish}
 use Rattle.rules.specs.Calls.{Call, opening, message, closing, keepalive, timeOf, callerOf}
 use Rattle.rules.specs.Plans.{planLease, planEstablish, heard, stamped, plan}
-use Rattle.rules.specs.Charges.{charged, cost}
+use Rattle.rules.specs.Charges.{charged, price}
 use Rattle.rules.specs.Step.{step}
 use Rattle.rules.specs.Reasons.{conditionOf, statusOf, ofLease, ofEstablish, explain}
 use Rattle.rules.specs.Refusals.{Applies}
@@ -95,7 +95,7 @@ pub record HeadroomExactly (tables : Tables) (call : Call) : Type 0 where
       ↔ (((n : ℕ) → 1 ≤ n → n ≤ 8 → Applies n tables call → ⊥) × (charged call ≡ true))
   -- "level minus charge"
   pub difference : (z : ℤ) → explain tables call .headroom ≡ some z
-      → z ≡ pos (levelNow (bucketOf (tables .allowances) (callerOf call)) (timeOf call)) -ℤ pos (cost call)
+      → z ≡ pos (levelNow (bucketOf (tables .allowances) (callerOf call)) (timeOf call)) -ℤ pos (price tables call)
   -- negative exactly if the answer is 9, and then by what is missing;
   pub negative : ((n : ℕ) × (explain tables call .headroom ≡ some (negsuc n))) ↔ (step tables call .answer .number ≡ 9)
   pub short : (n : ℕ) → explain tables call .headroom ≡ some (negsuc n) → ShortBy tables call (n + 1)

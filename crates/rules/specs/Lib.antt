@@ -5,6 +5,7 @@ pub mod Searches
 pub mod Tables
 pub mod Leases
 pub mod Sessions
+pub mod Decisions
 pub mod Keepalives
 pub mod Calls
 pub mod Plans
@@ -18,5 +19,6 @@ pub mod Layout
 pub mod Bytes
 pub mod Refusals
 pub mod Effects
+pub mod Prices
 pub mod Laws
 pub mod Explained

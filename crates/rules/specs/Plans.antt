@@ -1,17 +1,18 @@
--- What a call that passes the checks would do, decided before it is priced (01, "Effects"; 02, Item 3).
+-- What a call that passes the checks would do: what is sent, and the tables afterwards (01, "Effects"; 02, Item 3).
 use Prim.Native.Nat.{ℕ}
 use mathlib.Core.Bool.{Bool, true, false}
-use mathlib.Core.Option.{Option, none, some}
+use mathlib.Core.Option.{Option}
 use mathlib.Core.List.{List, []}
 use lib.Dec.{eqb, ltb}
 use lib.ListN.{length}
 use Rattle.octets.specs.Octets.{if_then_else_}
-use Rattle.svsc.specs.Messages.{Message, ProtocolVersion, VersionAnswer, LeaseRequest, LeaseRequestWithCookie, LeaseRefused, LeaseGranted, ExtensionRequest, ExtensionRefused, ExtensionGranted, EstablishRequest, EstablishRefused, Established, EstablishNotification, SessionEnd, SessionEndNotification, DataSend, DataReceive, Keepalive, encode, decode}
+use Rattle.svsc.specs.Messages.{Message, ProtocolVersion, LeaseRefused, LeaseGranted, ExtensionRefused, ExtensionGranted, EstablishRefused, Established, EstablishNotification, SessionEndNotification, DataReceive, Keepalive, encode, decode}
 use Rattle.rules.specs.Sizes.{nobody}
 use Rattle.rules.specs.Searches.{endRow}
 use Rattle.rules.specs.Tables.{Tables, partnerOf, opened, peer, hasSession, idOf, cookieOf, setState, setExpiry}
-use Rattle.rules.specs.Leases.{LeaseDecision, holdsLease, noSpareRow, cookieInUse, noFreeId, renewed, granted, decideLease, leaseEnd, grant, renew, rowToExtend, release}
-use Rattle.rules.specs.Sessions.{EstablishDecision, refusedWith, establishedWith, decideEstablish, randomSessionId, callersPeerId, callersKey, holdersPeerId, holdersKey, establish, endSession, await, clear}
+use Rattle.rules.specs.Leases.{LeaseDecision, holdsLease, noSpareRow, cookieInUse, noFreeId, renewed, granted, leaseEnd, grant, renew, release}
+use Rattle.rules.specs.Sessions.{EstablishDecision, refusedWith, establishedWith, randomSessionId, callersPeerId, callersKey, holdersPeerId, holdersKey, establish, endSession, await, clear}
+use Rattle.rules.specs.Decisions.{Decision, versionAnswered, leaseDecided, extensionDecided, sessionDecided, sessionEnded, dataSent, nothingAsked, decideMessage}
 use Rattle.rules.specs.Keepalives.{isDead, isDue, ask, answered, stamp}
 use Rattle.rules.specs.Calls.{Call, opening, message, closing, keepalive, timeOf, connectionOf}
 
@@ -72,9 +73,8 @@ planLease tables now c (granted row id cookie) =
     replyOnly (tables .connections) (grant (tables .leases) row until id cookie c) (encode (LeaseGranted id cookie until))
 
 -- Extension: "reply is type 5"; "expiry becomes reading + 3,600"
-unfoldable pub planExtension : Tables → ℕ → ℕ → List ℕ → Plan
-planExtension tables now c cookie =
-    let row = rowToExtend (tables .leases) now c cookie in
+unfoldable pub planExtension : Tables → ℕ → ℕ → ℕ → Plan
+planExtension tables now c row =
     let until = leaseEnd (tables .allowances) now in
     if ltb row (endRow (partnerOf c))
     then replyOnly (tables .connections) (setExpiry (tables .leases) row until) (encode (ExtensionGranted until))
@@ -97,8 +97,7 @@ planEstablish tables c id random (establishedWith h) = record {
 unfoldable pub planEnd : Tables → ℕ → ℕ → Plan
 planEnd tables c d = relayOnly (endSession (tables .connections) c d) (tables .leases) (encode SessionEndNotification) d
 
--- Type 11: "relay is 12 and the same data, to the other". 02, Item 4: "a send looks its session up once, before copying": the other is a
--- number here, and no record is read.
+-- Type 11: "relay is 12 and the same data, to the other". The other is a number here, and no record is read.
 unfoldable pub planData : Tables → ℕ → List ℕ → Plan
 planData tables d bytes = relayOnly (tables .connections) (tables .leases) (encode (DataReceive bytes)) d
 
@@ -116,31 +115,18 @@ planClose tables c =
       leases = release (tables .leases) c;
     }
 
--- A message of connection c; d is the connection that check 8 found, where the type needs a session. 02, Item 2: "a request's cookie is
--- considered"; 01: "Type 13: nothing sent". What peers do not send, check 6 refuses.
-unfoldable pub planMessage : Tables → ℕ → ℕ → ℕ → List ℕ → Option Message → Plan
-planMessage tables now c d random (some (VersionAnswer ok)) = planVersionAnswer tables c ok
-planMessage tables now c d random (some LeaseRequest) =
-    planLease tables now c (decideLease (tables .connections) (tables .leases) now c random [])
-planMessage tables now c d random (some (LeaseRequestWithCookie cookie)) =
-    planLease tables now c (decideLease (tables .connections) (tables .leases) now c random cookie)
-planMessage tables now c d random (some (ExtensionRequest cookie)) = planExtension tables now c cookie
-planMessage tables now c d random (some (EstablishRequest id)) =
-    planEstablish tables c id random (decideEstablish (tables .connections) (tables .leases) now c id)
-planMessage tables now c d random (some SessionEnd) = planEnd tables c d
-planMessage tables now c d random (some (DataSend bytes)) = planData tables d bytes
-planMessage tables now c d random (some Keepalive) = doNothing tables
-planMessage tables now c d random (some (ProtocolVersion major minor)) = doNothing tables
-planMessage tables now c d random (some LeaseRefused) = doNothing tables
-planMessage tables now c d random (some (LeaseGranted id cookie expiration)) = doNothing tables
-planMessage tables now c d random (some ExtensionRefused) = doNothing tables
-planMessage tables now c d random (some (ExtensionGranted expiration)) = doNothing tables
-planMessage tables now c d random (some (EstablishRefused id status)) = doNothing tables
-planMessage tables now c d random (some (Established id session peerId key)) = doNothing tables
-planMessage tables now c d random (some (EstablishNotification session peerId key)) = doNothing tables
-planMessage tables now c d random (some SessionEndNotification) = doNothing tables
-planMessage tables now c d random (some (DataReceive bytes)) = doNothing tables
-planMessage tables now c d random none = doNothing tables
+-- A message of connection c, once it is decided what it does: no record is looked up again.
+unfoldable pub planDecided : Tables → ℕ → ℕ → List ℕ → Decision → Plan
+planDecided tables now c random (versionAnswered ok) = planVersionAnswer tables c ok
+planDecided tables now c random (leaseDecided d) = planLease tables now c d
+planDecided tables now c random (extensionDecided row) = planExtension tables now c row
+planDecided tables now c random (sessionDecided id d) = planEstablish tables c id random d
+planDecided tables now c random (sessionEnded other) = planEnd tables c other
+planDecided tables now c random (dataSent other bytes) = planData tables other bytes
+planDecided tables now c random nothingAsked = doNothing tables
+
+unfoldable pub planMessage : Tables → ℕ → ℕ → List ℕ → Option Message → Plan
+planMessage tables now c random o = planDecided tables now c random (decideMessage (tables .connections) (tables .leases) now c random o)
 
 -- "hang-up yes": the same, and the host disconnects the caller
 abbrev pub disconnecting : Plan → Plan
@@ -162,10 +148,10 @@ planKeepalive tables now c =
     then replyOnly (ask (tables .connections) now c) (tables .leases) (encode Keepalive)
     else doNothing tables
 
--- What each call asks for. The peer that a record names is, where the type needs one, what check 8 found (Lookup.planned-with-found).
+-- What each call asks for.
 unfoldable pub planCall : Tables → Call → Plan
 planCall tables (opening now c reply) = planOpen tables c
-planCall tables (message now c m random reply relay) = planMessage tables now c (peer (tables .connections) c) random (decode m)
+planCall tables (message now c m random reply relay) = planMessage tables now c random (decode m)
 planCall tables (closing now c relay) = planClose tables c
 planCall tables (keepalive now c reply relay) = planKeepalive tables now c
 

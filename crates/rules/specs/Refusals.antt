@@ -13,7 +13,7 @@ use Rattle.allowance.specs.Bucket.{levelNow}
 use Rattle.rules.specs.Sizes.{connectionCount, connectionsSize, leasesSize, allowancesSize, timeLimit, randomBytes, leastBuffer}
 use Rattle.rules.specs.Tables.{Tables, closed, state, inSession, bucketOf, clock}
 use Rattle.rules.specs.Calls.{Call, opening, message, closing, keepalive, timeOf, connectionOf, callerOf, Answer}
-use Rattle.rules.specs.Charges.{cost}
+use Rattle.rules.specs.Charges.{price}
 use Rattle.rules.specs.Checks.{checks}
 
 -- check n applies to the call, n from 1 to 9
@@ -88,7 +88,7 @@ pub record EachExactly (tables : Tables) (call : Call) : Type 0 where
   pub seven : Applies 7 tables call ↔ NotPermittedHere (tables .connections) call
   pub eight : Applies 8 tables call ↔ WithoutSession (tables .connections) call
   -- "the charge exceeds the partner's level"
-  pub nine : Applies 9 tables call ↔ (levelNow (bucketOf (tables .allowances) (callerOf call)) (timeOf call) < cost call)
+  pub nine : Applies 9 tables call ↔ (levelNow (bucketOf (tables .allowances) (callerOf call)) (timeOf call) < price tables call)
 
 -- "Making a fresh relay has checks 1 and 2 and no trays.": what a start is answered with, and that it sends nothing
 pub record StartExactly (tables : Tables) (now : ℕ) (a : Answer) : Type 0 where

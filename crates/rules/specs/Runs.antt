@@ -25,7 +25,7 @@ relayMeter = record {
   answer = λ tables call. step tables call .answer;
   next = λ tables call. step tables call .tables;
   number = λ answer. answer .number;
-  cost = λ call answer. cost call;
+  cost = cost;
 }
 
 -- "Each call is lent the three tables as the one before left them": the tables after the calls,

@@ -69,13 +69,17 @@ randomBytes = 80
 abbrev pub leastBuffer : ℕ
 leastBuffer = 64
 
--- "A message costs 32 plus its length; an open costs 32"
+-- 02, Item 5: "The cost of a charged call becomes 32 plus .."
 abbrev pub callCost : ℕ
 callCost = 32
 
--- "is not refused with 9 for the same bytes two seconds of clock later"
+-- "An open costs 45": its reply is the version message, of 13 bytes (law Prices.prices)
+abbrev pub openCost : ℕ
+openCost = 45
+
+-- "is not refused with 9 for the same bytes two seconds of clock later"; 02, Item 5: "the two seconds in 01 become three"
 abbrev pub retryAfter : ℕ
-retryAfter = 2
+retryAfter = 3
 
 -- "expiry reading + 3,600"
 abbrev pub leaseTerm : ℕ

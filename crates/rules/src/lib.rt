@@ -78,6 +78,9 @@ pub const LEAST_BUFFER: usize = 64;
 // What a call costs beside its bytes.
 pub const CALL_COST: u64 = 32;
 
+// What an open costs: that, and the bytes of the version message.
+pub const OPEN_COST: u64 = 45;
+
 // The seconds of a lease; the candidates for its id, their bytes, and the first number that is no id.
 pub const LEASE_TERM: u64 = 3600;
 

@@ -11,6 +11,14 @@ impl Tally {
         *self.0.entry(name).or_default().entry(number).or_default() += 1;
     }
 
+    /// Adds what another one counted.
+    pub fn merge(&mut self, other: &Self) {
+        for (name, answers) in &other.0 {
+            let counts = self.0.entry(name).or_default();
+            answers.iter().for_each(|(&number, count)| *counts.entry(number).or_default() += count);
+        }
+    }
+
     /// Writes a row for each name.
     pub fn write_rows(&self, out: &mut fmt::Formatter) -> fmt::Result {
         for (name, answers) in &self.0 {

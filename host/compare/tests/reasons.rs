@@ -6,7 +6,7 @@ use compare::reasons::reached::Reached;
 use compare::reasons::{agree, truth};
 use compare::relay::boundary::{Call, Proved};
 use compare::relay::calls::Calls;
-use compare::relay::runs::{decoded, Run};
+use compare::relay::runs::{decoded, Pending, Run};
 use compare::relay::{self, single};
 use compare::{amount, forms};
 use model::Tables;
@@ -47,9 +47,11 @@ fn explain_run(calls: &mut Calls, reached: &mut Reached) -> Result<(), Differenc
     let run = Run::any(calls);
     let (start, anything) = run.start(calls);
     let mut tables = relay::agree::call(&Proved, &anything, &start)?.lent.tables();
+    let mut pending = Pending::default();
     for _ in 0..CALLS_OF_EACH {
-        let call = run.next(calls, &decoded(&tables));
-        let (varied, mut explained) = (calls.varied(&tables, &call), call.clone());
+        let relay = decoded(&tables);
+        let call = run.next(calls, &relay, &mut pending);
+        let (varied, mut explained) = (calls.varied(&tables, &relay, &call), call.clone());
         calls.lengthen(&mut explained);
         explain_and_make(reached, &varied, &explained)?;
         tables = relay::agree::call(&Proved, &tables, &call)?.lent.tables();

@@ -6,11 +6,12 @@ use compare::reasons::{agree, truth};
 use compare::relay::boundary::{Call, Kind, Lent, Second};
 use compare::relay::calls::Calls;
 use compare::relay::leases::Asked;
+use compare::relay::prices::{row_of, Row};
 use compare::relay::runs::decoded;
 use compare::relay::single;
 use compare::relay::spoiled::SPOILED_BYTES;
 use compare::{amount, forms};
-use engine::reasons::{Reason, LEASE};
+use engine::reasons::{Reason, ESTABLISH, LEASE};
 use engine::relay::BUFFER;
 use model::{partner_of, Condition, Lease, RandomBytes, Relay, State, Tables, LEVEL_LIMIT, TIME_LIMIT};
 
@@ -32,7 +33,7 @@ impl Explain for Spoiled {
     }
 }
 
-const SPOILED_REASONS: [fn(&mut Reason); 17] = [
+const SPOILED_REASONS: [fn(&mut Reason); 19] = [
     |reason| reason.check += 1,
     |reason| reason.check ^= 9,
     |reason| reason.request ^= 1,
@@ -60,10 +61,20 @@ const SPOILED_REASONS: [fn(&mut Reason); 17] = [
             (reason.charged, reason.headroom) = (0, 0);
         }
     },
-    // A lease that can't be paid is decided all the same.
+    // A lease or an establish that can't be paid is decided all the same.
     |reason| {
         if reason.check == 9 {
             reason.request = LEASE;
+        }
+    },
+    |reason| {
+        if reason.check == 9 {
+            reason.request = ESTABLISH;
+        }
+    },
+    |reason| {
+        if reason.check == 9 {
+            reason.condition = 1;
         }
     },
 ];
@@ -82,8 +93,11 @@ fn scenes() -> Vec<(Tables, Call)> {
         (LEVEL_LIMIT, message(3, &lease)),
         (LEVEL_LIMIT, message(2, &lease)),
         (10, message(3, &lease)),
+        (50, message(3, &lease)),
+        (50, message(2, &lease)),
         (LEVEL_LIMIT, message(3, &establish)),
         (LEVEL_LIMIT, message(2, &establish)),
+        (139, message(3, &establish)),
         (33, message(3, &[13])),
         (0, message(0, &[9])),
         (0, message(3, &[9])),
@@ -160,7 +174,17 @@ impl Explain for Overlooking {
     }
 }
 
-const OVERLOOKED: [(&str, Overlook); 17] = [
+const OVERLOOKED: [(&str, Overlook); 27] = [
+    ("what is sent out", |relay, call| misprice(relay, call, |_, received| 32 + received)),
+    ("what is received", |relay, call| misprice(relay, call, |row, received| row.price - received)),
+    ("that the random bytes aren't received", |relay, call| misprice(relay, call, |row, _| row.price + 80)),
+    ("the version message", |relay, call| misprice_row(relay, call, "open", 32)),
+    ("that a granted lease is dearer", |relay, call| misprice_row(relay, call, "lease granted", 36)),
+    ("that a refused lease is cheaper", |relay, call| misprice_row(relay, call, "lease refused", 72)),
+    ("that a renewed lease is granted", |relay, call| misprice_row(relay, call, "lease renewed", 60)),
+    ("that a session is dearer", |relay, call| misprice_row(relay, call, "established", 43)),
+    ("that a holder is told", |relay, call| misprice_row(relay, call, "established", 91)),
+    ("that an extension is dearer", |relay, call| misprice_row(relay, call, "extended", 59)),
     ("the refill", |relay, call| relay.allowances[partner(call)].updated = call.now),
     ("whose allowance it is", |relay, call| relay.allowances[partner(call)] = relay.allowances[0].clone()),
     ("that time doesn't go back", |relay, _| relay.set_clock(0)),
@@ -179,6 +203,21 @@ const OVERLOOKED: [(&str, Overlook); 17] = [
     ("that no closed connection is asked", |relay, call| change_state(relay, call, State::Closed, State::Open)),
     ("that awaiting connections are asked", |relay, call| change_state(relay, call, State::Awaiting, State::Closed)),
 ];
+
+/// Takes the call for one of another price, by giving its partner so much more or less.
+fn misprice(relay: &mut Relay, call: &Call, price: impl Fn(Row, u64) -> u64) {
+    if let (Some(row), true) = (row_of(relay, call), call.now < TIME_LIMIT) {
+        let allowance = &mut relay.allowances[partner(call)];
+        let wrong = price(row, call.message().len() as u64);
+        allowance.level = (allowance.level_at(call.now) + row.price).saturating_sub(wrong);
+        allowance.updated = call.now;
+    }
+}
+
+/// The same, of one outcome alone.
+fn misprice_row(relay: &mut Relay, call: &Call, name: &str, wrong: u64) {
+    misprice(relay, call, |row, _| if row.name == name { wrong } else { row.price });
+}
 
 /// The caller's partner.
 fn partner(call: &Call) -> usize {

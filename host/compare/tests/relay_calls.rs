@@ -31,5 +31,6 @@ fn calls_on_tables_from_anywhere() -> Result<(), Difference> {
     ];
     let keepalives = [&keepalives::CALLS_ON_ANY_TABLES[..], &keepalives::SENT_ON_ANY_TABLES].concat();
     reached.assert_all(&answers, &leases::ON_ANY_TABLES, &keepalives);
+    reached.prices.assert_at_the_price();
     Ok(())
 }

@@ -9,7 +9,7 @@ use compare::relay::connection_monitor::ConnectionMonitor;
 use compare::relay::leases::LastHolders;
 use compare::relay::monitor::{Entry, Fault, Monitor};
 use compare::relay::reached::Reached;
-use compare::relay::runs::{decoded, doubled_id, unused_bytes, Run};
+use compare::relay::runs::{decoded, doubled_id, unused_bytes, Pending, Run};
 use compare::relay::{agree, keepalives, leases};
 use compare::{amount, forms};
 
@@ -62,13 +62,14 @@ fn compare_run(calls: &mut Calls, reached: &mut Reached) -> Result<(), Failure> 
     let mut connection_monitor = ConnectionMonitor::default();
     let mut last_holders = LastHolders::default();
     let mut tables = begun.lent.tables();
+    let mut pending = Pending::default();
     for _ in 0..CALLS_OF_EACH {
         let relay = decoded(&tables);
-        let call = run.next(calls, &relay);
+        let call = run.next(calls, &relay, &mut pending);
         let outcome = agree::call(&Proved, &tables, &call)?;
         reached.count(&tables, &call, &outcome);
         reached.count_return(&relay, &call, &outcome, &last_holders);
-        monitor.record(&Entry::new(&relay, &call, outcome.answer.number))?;
+        monitor.record(&Entry::new(&relay, &call, outcome.answer))?;
         connection_monitor.record(&call, &outcome.answer)?;
         tables = outcome.lent.tables();
         let relay = decoded(&tables);
@@ -76,6 +77,7 @@ fn compare_run(calls: &mut Calls, reached: &mut Reached) -> Result<(), Failure> 
         assert_eq!(doubled_id(&relay), None, "the id of two live rows, after {call:?}");
         assert_eq!(unused_bytes(&tables), None, "a connection's unused bytes, after {call:?}");
         monitor.check_levels(&relay)?;
+        pending.note(calls, call, &outcome.answer);
     }
     Ok(())
 }

@@ -14,7 +14,7 @@ use crate::signals::Watch;
 use crate::{say, Failure, Outcome};
 
 const ABOUT: &str = "\
-Runs a relay on free ports of this machine and sends a file of 512 KiB through it, by itself and
+Runs a relay on free ports of this machine and sends a file of 256 KiB through it, by itself and
 then while another partner floods the relay: eight connections that request leases without end.
 Prints what each partner got and how long the file took. Ends by itself in some fifteen seconds.";
 
@@ -30,7 +30,8 @@ pub struct Arguments {}
 /// Which partner floods, and which sends the file.
 const FLOOD: usize = 0;
 const FILE: usize = 1;
-const FILE_LENGTH: usize = 512 * 1024;
+/// It costs somewhat more than twice as much, four seconds' refill beyond the allowance.
+const FILE_LENGTH: usize = 256 * 1024;
 /// By then the flood has used up its allowance.
 const FLOOD_LEAD: Duration = Duration::from_millis(800);
 /// Lease requests that a flooding connection sends at a time.
@@ -39,7 +40,7 @@ const BURST: usize = 64;
 pub fn run(Arguments {}: Arguments) -> Outcome {
     Watch::start("interrupted")?;
     let file = contents();
-    say(format_args!("Partner {FILE} sends a file of 512 KiB through the relay, by itself .."));
+    say(format_args!("Partner {FILE} sends a file of 256 KiB through the relay, by itself .."));
     let alone = scene(&file, false).map_err(failed)?;
     say(format_args!("\n.. and while partner {FLOOD} floods the relay from eight connections with lease requests."));
     let flooded = scene(&file, true).map_err(failed)?;

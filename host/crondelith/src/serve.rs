@@ -23,11 +23,13 @@ Runs the relay until it is interrupted (Ctrl-C), one port per partner.";
 const DETAILS: &str = "\
 The protocol is SVSC of the ScreenView paper over TCP: frames of a two-byte length, which counts
 the type byte, type 1 and a message. A partner has eight connections, and an allowance of 262,144
-that refills by 65,536 each second; a message costs 32 and its length. The protocol has no message
-for a refusal, so this is what follows from one:
+that refills by 65,536 each second. An open and each message but the end of a session cost 32, the
+bytes received and the bytes that the relay sends for it: a message of data 32 and twice its length,
+a session 140 if it is established and else 43. Three seconds pay for any of them. The protocol has
+no message for a refusal, so this is what follows from one:
 
   allowance used up (9)      the message waits for the refill, and nothing more is read from its
-                             connection meanwhile; a partner's connections share a refill by bytes
+                             connection meanwhile; a partner's connections share a refill by cost
   no session (8)             the message is dropped, and the next one is taken after a pause of a
                              millisecond for each KiB of it
   malformed (6), or not

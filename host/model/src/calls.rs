@@ -5,8 +5,8 @@ use codec::{encode, Message};
 
 use crate::checks::{check, Action, Call, Kind, Passed, Refusal};
 use crate::keepalives::Due;
-use crate::records::{Allowance, Connection, Session, State};
-use crate::relay::{partner_of, Relay, Tables};
+use crate::records::{Connection, Session, State};
+use crate::relay::{Relay, Tables};
 use crate::requests::{RandomBytes, Request};
 use crate::{NOBODY, TIME_LIMIT};
 
@@ -33,7 +33,7 @@ impl Answer {
 
 /// What an accepted call sends and asks for.
 #[derive(Default)]
-struct Sent {
+pub(crate) struct Sent {
     reply: Vec<u8>,
     relay: Option<(usize, Vec<u8>)>,
     disconnect: bool,
@@ -46,6 +46,11 @@ impl Sent {
 
     fn relay(to: usize, message: Message) -> Self {
         Self { relay: Some((to, bytes(message))), ..Self::default() }
+    }
+
+    /// The bytes in both buffers.
+    pub fn length(&self) -> usize {
+        self.reply.len() + self.relay.as_ref().map_or(0, |(_, relayed)| relayed.len())
     }
 }
 
@@ -99,11 +104,8 @@ pub fn keepalive(tables: &mut Tables, now: u64, connection: u64, reply: &mut [u8
 
 /// Makes a call on a copy of the relay, which becomes the relay if the call is accepted.
 fn attempt(tables: &mut Tables, call: Call) -> Result<Sent, Refusal> {
-    let (mut relay, passed) = check(tables, &call)?;
-    relay.charge(&passed, call.now)?;
-    let sent = relay.act(passed.caller, passed.action, call.now);
-    relay.note_sent(passed.caller, &sent, call.now);
-    relay.set_clock(call.now);
+    let (relay, passed) = check(tables, &call)?;
+    let (relay, sent) = relay.plan(&passed).carry_out(&passed)?;
     *tables = relay.encode();
     Ok(sent)
 }
@@ -121,22 +123,18 @@ fn deliver(done: Result<Sent, Refusal>, reply: &mut [u8], relay: &mut [u8]) -> A
 }
 
 impl Relay {
-    /// "A done charged call stores the level left and its reading as moment."
-    fn charge(&mut self, passed: &Passed, now: u64) -> Result<(), Refusal> {
-        if let Some(level) = passed.level_left()? {
-            self.allowances[partner_of(passed.caller)] = Allowance { level, updated: now };
-        }
-        Ok(())
-    }
-
-    /// The effect of a call that has passed every check.
-    fn act(&mut self, caller: usize, action: Action, now: u64) -> Sent {
-        match action {
+    /// The effect of a call that has passed every check, but for its charge.
+    pub(crate) fn act(&mut self, passed: &Passed) -> Sent {
+        let Passed { caller, now, .. } = *passed;
+        let sent = match passed.action {
             Action::Open => self.open(caller),
             Action::Request(request, random) => self.serve(caller, request, random, now),
             Action::Close => self.close(caller),
             Action::Keepalive => self.keepalive(caller, now),
-        }
+        };
+        self.note_sent(caller, &sent, now);
+        self.set_clock(now);
+        sent
     }
 
     /// "the reading of the last message sent to it": a reply is sent to the caller, what is relayed to the other.

@@ -1,8 +1,8 @@
 //! The checks, in their order, on a call and all that it brings: "the first that applies decides".
 
 use crate::records::State;
-use crate::relay::{partner_of, Relay, Tables, CONNECTIONS};
-use crate::requests::{cost, RandomBytes, Request, BASE_COST};
+use crate::relay::{Relay, Tables, CONNECTIONS};
+use crate::requests::{RandomBytes, Request};
 use crate::TIME_LIMIT;
 
 /// The least reply buffer, and the least relay buffer.
@@ -39,13 +39,11 @@ pub(crate) enum Kind<'a> {
 }
 
 impl Kind<'_> {
-    /// What the call costs, if it is a charged one: "an open costs 32", "close [..] nothing"; the new call is "free of
-    /// charge".
-    fn cost(&self) -> Option<u64> {
+    /// The bytes that are received; the random bytes aren't.
+    fn received(&self) -> usize {
         match self {
-            Self::Open { .. } => Some(BASE_COST),
-            Self::Message { message, .. } => cost(message),
-            Self::Close { .. } | Self::Keepalive { .. } => None,
+            Self::Message { message, .. } => message.len(),
+            Self::Open { .. } | Self::Close { .. } | Self::Keepalive { .. } => 0,
         }
     }
 }
@@ -61,29 +59,20 @@ pub(crate) enum Action<'a> {
 
 /// A call that has passed checks 1 to 8.
 pub(crate) struct Passed<'a> {
+    pub now: u64,
     pub caller: usize,
     pub action: Action<'a>,
-    /// Of a charged call "level minus charge, negative by exactly the shortfall".
-    pub headroom: Option<i64>,
+    pub received: usize,
 }
 
-impl Passed<'_> {
-    /// Check 9: "Equal cost and level passes". Gives the level that a charged call leaves.
-    pub fn level_left(&self) -> Result<Option<u64>, Refusal> {
-        let left = self.headroom.map(u64::try_from).transpose();
-        left.map_err(|_| Refusal::Allowance)
-    }
-}
-
-/// Checks 1 to 8. Gives the relay that the tables are, and what is asked of it.
+/// Checks 1 to 8; the ninth needs to know what the call would do. Gives the relay that the tables are, and what is asked of it.
 pub(crate) fn check<'a>(tables: &Tables, call: &Call<'a>) -> Result<(Relay, Passed<'a>), Refusal> {
     let relay = Relay::decode(tables).ok_or(Refusal::TableSize)?;
     refuse_if(call.now >= TIME_LIMIT || call.now < relay.clock(), Refusal::Time)?;
     refuse_if(call.connection >= CONNECTIONS as u64, Refusal::NoSuchConnection)?;
     let caller = call.connection as usize;
     let action = relay.check_kind(caller, call.kind)?;
-    let headroom = call.kind.cost().map(|cost| relay.headroom(caller, cost, call.now));
-    Ok((relay, Passed { caller, action, headroom }))
+    Ok((relay, Passed { now: call.now, caller, action, received: call.kind.received() }))
 }
 
 fn refuse_if(applies: bool, refusal: Refusal) -> Result<(), Refusal> {
@@ -128,10 +117,5 @@ impl Relay {
         refuse_if(!request.permitted_in(self.connections[caller].state()), Refusal::NotPermitted)?;
         refuse_if(request.needs_session() && self.in_session_with(caller).is_none(), Refusal::NoSession)?;
         Ok(request)
-    }
-
-    /// What the caller's partner has at this time, less the cost.
-    fn headroom(&self, caller: usize, cost: u64, now: u64) -> i64 {
-        self.allowances[partner_of(caller)].level_at(now) as i64 - cost as i64
     }
 }

@@ -90,15 +90,19 @@ impl Relay {
         Some((lease.id, lease.cookie, lease.expiry))
     }
 
-    /// Extends the lease and gives its expiry, "exactly if a live row of the partner, held by this connection, has that
-    /// cookie (the lowest such row)".
+    /// Extends the lease and gives its expiry.
     pub(crate) fn extend(&mut self, caller: usize, cookie: &[u8], now: u64) -> Option<u64> {
-        let (row, _) = self
-            .live_rows(partner_of(caller), now)
-            .find(|&(row, lease)| self.holder_of(row) == Some(caller) && lease.cookie == cookie)?;
+        let row = self.row_to_extend(caller, cookie, now)?;
         let lease = &mut self.leases[row];
         lease.expiry = now + TERM;
         Some(lease.expiry)
+    }
+
+    /// "extended exactly if a live row of the partner, held by this connection, has that cookie (the lowest such row)"
+    pub fn row_to_extend(&self, caller: usize, cookie: &[u8], now: u64) -> Option<usize> {
+        let mut live = self.live_rows(partner_of(caller), now);
+        let extended = live.find(|&(row, lease)| self.holder_of(row) == Some(caller) && lease.cookie == cookie);
+        extended.map(|(row, _)| row)
     }
 
     /// "A holder counts exactly if it is an open connection of the row's partner."

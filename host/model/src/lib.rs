@@ -7,6 +7,7 @@ mod calls;
 mod checks;
 mod keepalives;
 mod leases;
+mod plan;
 pub mod reasons;
 mod records;
 mod relay;
@@ -18,10 +19,11 @@ pub use calls::{close, fresh, keepalive, message, open, Answer};
 pub use checks::Refusal;
 pub use keepalives::{Due, ANSWER_TIMEOUT, KEEPALIVE_TIMEOUT};
 pub use leases::{Condition, Offer};
+pub use plan::BASE_COST;
 pub use records::{Allowance, Connection, Lease, Session, State};
 pub use relay::{partner_of, partner_of_row, Relay, Tables, CONNECTIONS, LEASES, PARTNERS};
 pub use renewals::Part;
-pub use requests::{cost, RandomBytes, Request, BASE_COST};
+pub use requests::{RandomBytes, Request};
 
 /// No connection: as a peer, a holder or a destination.
 pub const NOBODY: u8 = 255;

@@ -3,6 +3,7 @@
 
 use crate::checks::{check, Action, Call, Kind, Passed, Refusal};
 use crate::leases::Condition;
+use crate::plan::Plan;
 use crate::relay::{Relay, Tables};
 use crate::requests::Request;
 
@@ -71,22 +72,27 @@ pub fn keepalive(tables: &Tables, now: u64, connection: u64, reply_length: u64, 
 fn explain(tables: &Tables, call: Call) -> Reason {
     match check(tables, &call) {
         Err(refusal) => Reason { outcome: Outcome::Stopped(refusal), headroom: None },
-        Ok((relay, passed)) => Reason { outcome: relay.outcome(&passed, call.now), headroom: passed.headroom },
+        Ok((relay, passed)) => {
+            let plan = relay.plan(&passed);
+            Reason { outcome: relay.outcome(&passed, &plan), headroom: plan.headroom }
+        }
     }
 }
 
 impl Relay {
-    fn outcome(&self, passed: &Passed, now: u64) -> Outcome {
-        if let Err(refusal) = passed.level_left() {
+    /// What decided a call that isn't paid for stands in its price alone.
+    fn outcome(&self, passed: &Passed, plan: &Plan) -> Outcome {
+        if let Err(refusal) = plan.level_left() {
             return Outcome::Stopped(refusal);
         }
+        let Passed { caller, now, .. } = *passed;
         match passed.action {
             // "Whether a lease is accepted is decided as in 01, cookie or not."
             Action::Request(Request::Lease { .. }, random) => {
-                Outcome::Lease { failed: self.offer(passed.caller, random, now).failed().next() }
+                Outcome::Lease { failed: self.offer(caller, random, now).failed().next() }
             }
             Action::Request(Request::Establish { id }, _) => {
-                Outcome::Establish { status: self.holder_to_join(passed.caller, id, now).err().unwrap_or(0) }
+                Outcome::Establish { status: self.holder_to_join(caller, id, now).err().unwrap_or(0) }
             }
             _ => Outcome::Done,
         }

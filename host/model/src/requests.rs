@@ -1,4 +1,4 @@
-//! What a message call brings: the request that a peer sends, its cost, and random bytes.
+//! What a message call brings: the request that a peer sends, and random bytes.
 
 use codec::{decode, Message};
 
@@ -55,14 +55,6 @@ impl<'a> Request<'a> {
     pub fn needs_session(&self) -> bool {
         matches!(self, Self::SessionEnd | Self::Data { .. })
     }
-}
-
-/// What opening costs, and every message beside its length.
-pub const BASE_COST: u64 = 32;
-
-/// "A message costs 32 plus its length", and SessionEnd, alone of type 9, "nothing": it isn't charged.
-pub fn cost(message: &[u8]) -> Option<u64> {
-    (message.first() != Some(&9)).then_some(BASE_COST + message.len() as u64)
 }
 
 /// The scope's draw: 80 random bytes, with which a lease or a session is made.

@@ -28,7 +28,7 @@ impl Relay {
 
     /// "4 if the caller has a session; 1 if no live row of its partner has the id; 2 if the lowest such row has no
     /// holder that counts; 5 if that holder is the caller; 3 if it has a session; else 0"
-    pub(crate) fn holder_to_join(&self, caller: usize, id: u32, now: u64) -> Result<usize, u8> {
+    pub fn holder_to_join(&self, caller: usize, id: u32, now: u64) -> Result<usize, u8> {
         if self.in_session_with(caller).is_some() {
             return Err(4);
         }

@@ -13,7 +13,8 @@ use crate::Error;
 
 /// How long a connection may take that nothing answers.
 const CONNECT_WAIT: Duration = Duration::from_secs(10);
-/// How long the relay may take to answer, unless another time is set. A used-up allowance delays it by seconds.
+/// How long the relay may take to answer, unless another time is set. A used-up allowance delays it by seconds: by fifteen
+/// if the partner's seven other connections send messages of the largest size.
 const ANSWER_WAIT: Duration = Duration::from_secs(30);
 
 /// A peer whose version handshake is done.

@@ -16,8 +16,8 @@ use crate::{Error, Fingerprint, Patience, Peer, Progress};
 
 /// The bytes of a file that a message carries, unless another size is asked for.
 pub const MESSAGE_SIZE: usize = 16_384;
-/// Bytes of the file that may be on their way, sent and not counted by the receiver yet. A relay hands on about half of
-/// it in a second once the allowance is used up, so a larger one would only fill buffers and make progress a guess.
+/// Bytes of the file that may be on their way, sent and not counted by the receiver yet. A relay hands on a quarter of it
+/// in a second once the allowance is used up, so a larger one would only fill buffers and make progress a guess.
 const WINDOW: u64 = 131_072;
 /// How long to wait, after a failed write, for what the relay said before.
 const REASON_WAIT: Duration = Duration::from_secs(1);

@@ -8,8 +8,14 @@ use crate::clock::Clock;
 use crate::refusal::Refusal;
 use crate::{CONNECTIONS_EACH, PARTNERS};
 
-/// The relay's clock: the last number of the last record of the allowances, most significant byte first.
-const CLOCK_LENGTH: usize = 8;
+/// Bytes of an allowance's record: the level and the time of its update, most significant byte first. There is one for each
+/// partner, and a last one, whose time is the relay's clock.
+const RECORD_LENGTH: usize = 16;
+/// Bytes of each of these numbers.
+const NUMBER_LENGTH: usize = RECORD_LENGTH / 2;
+/// The most that a partner has, and what it gets each second.
+const CAPACITY: u64 = 262_144;
+const REFILL: u64 = 65_536;
 
 /// The three tables as bytes, as they are kept from one run to the next.
 #[derive(Clone, PartialEq, Eq)]
@@ -30,12 +36,28 @@ impl Tables {
 
     /// The latest reading that a call was accepted at.
     pub fn clock(&self) -> u64 {
-        self.0[Self::SIZE - CLOCK_LENGTH..].iter().fold(0, |number, byte| number << 8 | u64::from(*byte))
+        let [_, clock] = self.allowance(PARTNERS);
+        clock
+    }
+
+    /// What a partner has at a time: "A level above 262,144 reads as 262,144; a moment after the reading gives no refill."
+    pub fn level(&self, partner: usize, time: u64) -> u64 {
+        let [level, updated] = self.allowance(partner);
+        let refill = time.saturating_sub(updated).saturating_mul(REFILL);
+        level.saturating_add(refill).min(CAPACITY)
+    }
+
+    /// The two numbers of a partner's record, or of the last.
+    fn allowance(&self, record: usize) -> [u64; 2] {
+        let start = Self::SIZE - relay::ALLOWANCES + record * RECORD_LENGTH;
+        let number =
+            |start| self.0[start..][..NUMBER_LENGTH].iter().fold(0, |number, byte| number << 8 | u64::from(*byte));
+        [start, start + NUMBER_LENGTH].map(number)
     }
 
     /// Whether they are others than these, also if the clock were the same.
     pub fn differ_beside_clock(&self, other: &Self) -> bool {
-        let beside_clock = ..Self::SIZE - CLOCK_LENGTH;
+        let beside_clock = ..Self::SIZE - NUMBER_LENGTH;
         self.0[beside_clock] != other.0[beside_clock]
     }
 
@@ -142,5 +164,39 @@ fn accepted(answer: Answer) -> Result<Answer, Refusal> {
     match answer.number {
         0 => Ok(answer),
         number => Err(Refusal(number)),
+    }
+}
+
+#[cfg(test)]
+mod tests {
+    use engine::{reasons, relay};
+
+    use super::{Relay, Tables, RECORD_LENGTH, REPLY_LENGTH};
+    use crate::{JumpingClock, CLOCK_LIMIT, CONNECTIONS_EACH, PARTNERS};
+
+    /// Tables of a fresh relay with another allowance of this partner.
+    fn tables(partner: usize, level: u64, updated: u64) -> Tables {
+        let mut tables = Relay::fresh(Box::<JumpingClock>::default()).expect("a relay").tables().clone();
+        let start = Tables::SIZE - relay::ALLOWANCES + partner * RECORD_LENGTH;
+        tables.0[start..][..RECORD_LENGTH].copy_from_slice(&[level.to_be_bytes(), updated.to_be_bytes()].concat());
+        tables
+    }
+
+    /// What an open, which costs 45, would leave is the engine's word.
+    #[test]
+    fn a_level_is_what_the_engine_takes_it_for() {
+        let updates = [0, 4, 7, 8, 9, CLOCK_LIMIT - 1, u64::MAX];
+        let levels = [0, 1, 44, 45, 65_536, 262_143, 262_144, 262_145, u64::MAX];
+        for partner in 0..PARTNERS {
+            for (level, updated) in levels.iter().flat_map(|level| updates.map(|updated| (*level, updated))) {
+                let tables = tables(partner, level, updated);
+                for time in [4, 7, 8, 9, 10, 11, 100, CLOCK_LIMIT - 1] {
+                    let connection = (partner * CONNECTIONS_EACH) as u64;
+                    let left = reasons::open(tables.view(), time, connection, REPLY_LENGTH as u64).headroom;
+                    let told = tables.level(partner, time);
+                    assert_eq!(told as i64 - 45, left, "{level} of {updated} at {time}, partner {partner}");
+                }
+            }
+        }
     }
 }

@@ -1,13 +1,13 @@
 //! Turns among the connections of a partner that have something to offer: deficit round robin, so that they share what
-//! their partner has by its bytes and not by messages. Who is refused for allowance keeps the turn while it waits: else
-//! small messages of the partner's other connections could take every refill before a large one.
+//! their partner has by what messages cost, and not one message each. Who is refused for allowance keeps the turn while it
+//! waits: else small messages of the partner's other connections could take every refill before a large one.
 
 use std::collections::VecDeque;
 
 use crate::CONNECTIONS_EACH;
 
-/// What a connection may spend more when the turn has passed it.
-const QUANTUM: usize = 4_096;
+/// What a connection may spend more when the turn has passed it: some 4 KiB of data, which costs twice that.
+const QUANTUM: usize = 8_192;
 
 #[derive(Default)]
 pub struct Turns {
@@ -91,9 +91,9 @@ mod tests {
 
     #[test]
     fn bytes_are_shared_and_not_messages() {
-        let spent = spent(&[65_566, 33, 1_056], 30_000);
+        let spent = spent(&[131_100, 33, 2_082], 30_000);
         let (least, most) = (spent.iter().min().expect("three"), spent.iter().max().expect("three"));
-        assert!(*least > 500_000 && most - least <= 2 * 65_566, "{spent:?}");
+        assert!(*least > 500_000 && most - least <= 2 * 131_100, "{spent:?}");
     }
 
     #[test]
@@ -116,8 +116,8 @@ mod tests {
     fn nothing_is_saved_up_by_who_has_nothing_to_offer() {
         let mut turns = Turns::default();
         turns.join(0);
-        next_that_affords(&mut turns, |_| 5_000);
-        assert!(turns.credit(0) >= 5_000);
+        next_that_affords(&mut turns, |_| 10_000);
+        assert!(turns.credit(0) >= 10_000);
         turns.leave(0);
         turns.join(0);
         assert_eq!(turns.credit(0), 0);

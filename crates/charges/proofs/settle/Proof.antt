@@ -1,5 +1,4 @@
 -- `settle`: the clock alone, or the charge with it.
-use mathlib.Core.List.{[]}
 use Rattle.charges.proofs.Ways.{not-charged, is-charged}
 use borrow.Author.Needs.{needs}
 use Rattle.charges.proofs.settle.Statement.{statement}
@@ -11,13 +10,8 @@ byte-requires c κs = search needs
 set-clock-requires : tie.Need-set-clock-requires
 set-clock-requires c κs = search needs
 
-cost-requires : tie.Need-cost-requires
-cost-requires c κs = search needs
-
 pay-requires : tie.Need-pay-requires
-pay-requires c κs =
-    let s = c .before .before .before .before .before .before in
-    rw (c .cost .ensures (s .args .time) (s .args .c) [] [] []) (s .pre .1 [] [] [])
+pay-requires c κs = search needs
 
 same-length : tie.Need-same-length
 same-length c = search needs
@@ -32,9 +26,9 @@ same-length-2 c = search needs
 
 returns-2 : tie.Need-returns-2
 returns-2 c random reply relay =
-    let a = c .before .before .before .before .before .before .before .before .before .args in
-    is-charged (a .time) (a .c) (a .m .now) random reply relay _ (c .before .before .before .before .before .before .byte .ensures) (c .before .before .before .before .before .if1 .left) (a .allowances .now) _ _ _
-    (c .before .before .before .cost .ensures (a .time) (a .c) random reply relay) (c .before .before .pay .ensures)
+    let a = c .before .before .before .before .before .before .before .before .args in
+    is-charged (a .time) (a .c) (a .m .now) random reply relay _ (c .before .before .before .before .before .byte .ensures) (c .before .before .before .before .if1 .left) (a .allowances .now) _ _
+    (c .before .before .pay .ensures)
 
 pub settle-spec : {M : Type 1} → statement M
 settle-spec =
@@ -42,7 +36,6 @@ settle-spec =
     (tie.spec
     byte-requires
     set-clock-requires
-    cost-requires
     pay-requires
     same-length
     returns

@@ -4,7 +4,8 @@ use mathlib.Core.Path.{refl, sym, _∙_}
 use Rattle.allowance.proofs.Numbers.{level≤capacity}
 use Rattle.rules.specs.Tables.{lent, bucketOf}
 use Rattle.rules.specs.Calls.{opening}
-use Rattle.rules.specs.Charges.{cost, price, callerLevel}
+use Rattle.rules.specs.Charges.{callerLevel}
+use Rattle.rules.proofs.Prices.{prices}
 use Rattle.rules.specs.Reasons.{asked}
 use Rattle.reasons.proofs.Ways.{nothing-asked, first-eight-passed, stopped-way, charged-way}
 use Rattle.explain_open.proofs.Ways.{open-passed}
@@ -56,7 +57,7 @@ with-headroom-requires c κs =
     omega (arith, level≤capacity (bucketOf (s .args .allowances .now) (c .before .partner-of .result)) (s .args .time), c .level .ensures)
 
 returns-2 : tie.Need-returns-2
-unfolding callerLevel price cost
+unfolding callerLevel
 returns-2 c reply long =
     let s = c .before .before .before .before .before .before .before .before .before .before in
     let tables = lent (s .args .connections .now) (s .args .leases .now) (s .args .allowances .now) in
@@ -66,7 +67,7 @@ returns-2 c reply long =
     ∙ rw (c .before .before .before .before .before .nothing-named .ensures)
     (charged-way tables call _ e
     (first-eight-passed tables call _ e (sym (c .before .before .before .before .is-stopped .ensures) ∙ c .before .before .before .if1 .left)) refl _ (nothing-asked tables call (c .before .before .before .before .before .before .refusal .result) (unfold asked in refl)) _ _
-    (c .before .level .ensures ∙ rw (c .before .before .partner-of .ensures)) refl)
+    (c .before .level .ensures ∙ rw (c .before .before .partner-of .ensures)) (sym (prices tables .open-price (s .args .time) (s .args .connection) reply)))
 
 pub crondelith-explain-open-spec : {M : Type 1} → statement M
 crondelith-explain-open-spec =

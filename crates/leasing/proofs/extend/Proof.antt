@@ -11,12 +11,15 @@ use Rattle.leasing.proofs.Ways.{until-below, extension-ranges, extensio
 use borrow.Author.Needs.{needs}
 use Rattle.leasing.proofs.extend.Statement.{statement}
 use Rattle.leasing.proofs.extend.Tie as tie
-
-part-requires : tie.Need-part-requires
-part-requires c κs = search needs
-
-row-to-extend-requires : tie.Need-row-to-extend-requires
-row-to-extend-requires c κs = search needs
+use Rattle.leasing.proofs.extend.Reads as reads
+use Rattle.leasing.proofs.extend.Lts as lts
+use Rattle.answers.proofs.replied.Reads as replied-reads
+use Rattle.lease_table.proofs.end_row.Reads as end-row-reads
+use Rattle.lease_table.proofs.partner_of.Reads as partner-of-reads
+use Rattle.lease_writes.proofs.extend.Reads as extend-reads
+use Rattle.leases.proofs.lease_end.Reads as lease-end-reads
+use Rattle.svsc_lease_writers.proofs.svsc_write_extension_granted.Reads as svsc-write-extension-granted-reads
+use Rattle.svsc_lease_writers.proofs.svsc_write_extension_refused.Reads as svsc-write-extension-refused-reads
 
 partner-of-requires : tie.Need-partner-of-requires
 partner-of-requires c κs = search needs
@@ -47,17 +50,17 @@ same-length-2 c = search needs
 
 returns : tie.Need-returns
 returns c cs relay =
-    let s = c .before .before .before .before .before .before .before .before .before .before .before .before .before .before .before .before .before .before .before .before .before in
+    let s = c .before .before .before .before .before .before .before .before .before .before .before .before .before .before .before .before .before in
     let a = s .args in
-    let until = c .before .before .before .before .before .before .before .before .before .before .lease-end .result in
-    let low : until < 2 ^ 64 = rw (c .before .before .before .before .before .before .before .before .before .before .lease-end .ensures) (until-below (a .allowances .now) (a .time) (s .pre .timely)) in
+    let made = c .before .before .before .before .before .before .before .before .before .before .lease-end in
+    let until = made .result in
+    let low : until < 2 ^ 64 = rw (made .ensures) (until-below (a .allowances .now) (a .time) (s .pre .timely)) in
     let room : length (encode (ExtensionGranted until)) ≤ length (a .reply .now) = omega (arith, extension-length until, s .pre .room) in
     let wrote = c .before .before .before .before .svsc-write-extension-granted .ensures in
-    let below : c .before .before .before .before .before .before .before .before .before .before .before .before .before .before .row-to-extend .result < endRow (partnerOf (a .c)) = omega (arith, c .before .before .before .before .before .before .before .before .before .before .before .before .end-row .ensures, ap endRow (c .before .before .before .before .before .before .before .before .before .before .before .before .before .partner-of .ensures)) in
-    rw (← (c .before .before .before .before .before .before .before .before .before .before .before .before .before .before .before .before .part .ensures))
-    (extended cs (a .leases .now) (a .allowances .now) (a .reply .now) relay (a .time) (a .c) _ until _ _ _ _ _ (c .before .before .before .before .before .before .before .before .before .before .before .before .before .before .row-to-extend .ensures) below
-    (c .before .before .before .before .before .before .before .before .before .before .lease-end .ensures) (c .before .before .before .before .before .before .before .before .extend .ensures) (sent-length (ExtensionGranted until) (a .reply .now) _ wrote (extension-ranges until low) room)
-    (sent-buffer (ExtensionGranted until) (a .reply .now) _ wrote (extension-ranges until low) room) (c .replied .ensures))
+    let below : a .row < endRow (partnerOf (a .c)) = omega (arith, c .before .before .before .before .before .before .before .before .before .before .before .if1 .taken, c .before .before .before .before .before .before .before .before .before .before .before .before .end-row .ensures, ap endRow (c .before .before .before .before .before .before .before .before .before .before .before .before .before .partner-of .ensures)) in
+    extended cs (a .leases .now) (a .allowances .now) (a .reply .now) relay (a .time) (a .c) _ until _ _ _ _ below
+    (made .ensures) (c .before .before .before .before .before .before .before .before .extend .ensures) (sent-length (ExtensionGranted until) (a .reply .now) _ wrote (extension-ranges until low) room)
+    (sent-buffer (ExtensionGranted until) (a .reply .now) _ wrote (extension-ranges until low) room) (c .replied .ensures)
 
 svsc-write-extension-refused-requires : tie.Need-svsc-write-extension-refused-requires
 svsc-write-extension-refused-requires c κs = search needs
@@ -71,24 +74,20 @@ replied-requires-2 c κs = search needs
 same-length-3 : tie.Need-same-length-3
 same-length-3 c = search needs
 
-same-length-4 : tie.Need-same-length-4
-same-length-4 c = search needs
-
 returns-2 : tie.Need-returns-2
 unfolding wellFormed encode
 returns-2 c cs relay =
-    let a = c .before .before .before .before .before .before .before .before .before .before .before .before .before .before .before .before .args in
-    let past : endRow (partnerOf (a .c)) ≤ c .before .before .before .before .before .before .before .before .before .row-to-extend .result = omega (arith, c .before .before .before .before .before .before .before .end-row .ensures, ap endRow (c .before .before .before .before .before .before .before .before .partner-of .ensures)) in
-    rw (← (c .before .before .before .before .before .before .before .before .before .before .before .part .ensures))
-    (not-extended cs (a .leases .now) (a .allowances .now) (a .reply .now) relay (a .time) (a .c) _ _ _ _ _ (c .before .before .before .before .before .before .before .before .before .row-to-extend .ensures) past
-    (sent-length ExtensionRefused (c .before .before .before .before .before .before .before .before .before .before .before .before .before .before .before .before .args .reply .now) _ (c .before .before .before .before .svsc-write-extension-refused .ensures) refl (omega (arith, c .before .before .before .before .before .before .before .before .before .before .before .before .before .before .before .before .pre .room))) (sent-buffer ExtensionRefused (c .before .before .before .before .before .before .before .before .before .before .before .before .before .before .before .before .args .reply .now) _ (c .before .before .before .before .svsc-write-extension-refused .ensures) refl (omega (arith, c .before .before .before .before .before .before .before .before .before .before .before .before .before .before .before .before .pre .room))) (c .replied2 .ensures))
+    let s = c .before .before .before .before .before .before .before .before .before .before .before .before in
+    let a = s .args in
+    let wrote = c .before .before .before .before .svsc-write-extension-refused .ensures in
+    let past : endRow (partnerOf (a .c)) ≤ a .row = omega (arith, c .before .before .before .before .before .before .if1 .left, c .before .before .before .before .before .before .before .end-row .ensures, ap endRow (c .before .before .before .before .before .before .before .before .partner-of .ensures)) in
+    not-extended cs (a .leases .now) (a .allowances .now) (a .reply .now) relay (a .time) (a .c) _ _ _ _ past
+    (sent-length ExtensionRefused (a .reply .now) _ wrote refl (omega (arith, s .pre .room))) (sent-buffer ExtensionRefused (a .reply .now) _ wrote refl (omega (arith, s .pre .room))) (c .replied2 .ensures)
 
 pub extend-spec : {M : Type 1} → statement M
 extend-spec =
     tie.close
     (tie.spec
-    part-requires
-    row-to-extend-requires
     partner-of-requires
     end-row-requires
     lease-end-requires
@@ -103,5 +102,4 @@ extend-spec =
     cast-replied-2
     replied-requires-2
     same-length-3
-    same-length-4
     returns-2)

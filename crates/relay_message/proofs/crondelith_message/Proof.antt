@@ -3,15 +3,23 @@ use native.Mathlib.Omega.{arith}
 use mathlib.Core.Path.{refl, _∙_}
 use Rattle.rules.specs.Tables.{lent}
 use Rattle.rules.specs.Calls.{message}
-use Rattle.message_refusal.proofs.MessageStops.{nine-number}
+use Rattle.message_refusal.proofs.MessageStops.{assessed-number}
 use Rattle.answers.proofs.Ways.{refused-way}
-use Rattle.relay_message.proofs.Ways.{admitted, admitted-length, admitted-payable, message-way}
+use Rattle.relay_message.proofs.Ways.{admitted, feasible, admitted-payable, message-way}
 use borrow.Author.Needs.{needs}
 use Rattle.relay_message.proofs.crondelith_message.Statement.{statement}
 use Rattle.relay_message.proofs.crondelith_message.Tie as tie
+use Rattle.relay_message.proofs.crondelith_message.Reads as reads
+use Rattle.relay_message.proofs.crondelith_message.Lts as lts
+use Rattle.answers.proofs.sent_nothing.Reads as sent-nothing-reads
+use Rattle.charges.proofs.settle.Reads as settle-reads
+use Rattle.dispatch.proofs.handle.Reads as handle-reads
+use Rattle.keepalives.proofs.answered.Reads as answered-reads
+use Rattle.keepalives.proofs.sent.Reads as sent-reads
+use Rattle.message_refusal.proofs.assess.Reads as assess-reads
 
-refusal-requires : tie.Need-refusal-requires
-refusal-requires c κs = search needs
+assess-requires : tie.Need-assess-requires
+assess-requires c κs = search needs
 
 sent-nothing-requires : tie.Need-sent-nothing-requires
 sent-nothing-requires c κs = search needs
@@ -29,22 +37,25 @@ returns : tie.Need-returns
 returns c =
     let s = c .before in
     let a = s .before .before .before .before .before .before .before .before .before .before .before .before .before .args in
-    let k = nine-number (lent (a .connections .now) (a .leases .now) (a .allowances .now)) (message (a .time) (a .connection) (a .m .now) (a .random .now) (a .reply .now) (a .relay .now)) (s .before .before .refusal .result) (s .before .before .refusal .ensures (a .reply .now) (a .relay .now) refl refl) in
-    refused-way (lent (a .connections .now) (a .leases .now) (a .allowances .now)) (message (a .time) (a .connection) (a .m .now) (a .random .now) (a .reply .now) (a .relay .now)) _ k (s .if1 .taken) (c .sent-nothing .result) (c .sent-nothing .ensures)
+    let tables = lent (a .connections .now) (a .leases .now) (a .allowances .now) in
+    let all = s .before .before .assess .ensures (a .reply .now) (a .relay .now) refl refl in
+    refused-way tables (message (a .time) (a .connection) (a .m .now) (a .random .now) (a .reply .now) (a .relay .now)) _ (assessed-number tables (a .time) (a .connection) (a .m .now) (a .random .now) (a .reply .now) (a .relay .now) (s .before .before .assess .result) all) (s .if1 .taken) (c .sent-nothing .result) (c .sent-nothing .ensures)
 
 cast-c : tie.Need-cast-c
 cast-c c =
     let s = c in
     let a = s .before .before .before .before .before .before .before .before .before .before .before .before .before .args in
-    let p = admitted (lent (a .connections .now) (a .leases .now) (a .allowances .now)) (a .time) (a .connection) (a .m .now) (a .random .now) (a .reply .now) (a .relay .now) (s .before .before .refusal .result) (s .before .before .refusal .ensures (a .reply .now) (a .relay .now) refl refl) (s .if1 .left) in
-    omega (arith, p .known)
+    let tables = lent (a .connections .now) (a .leases .now) (a .allowances .now) in
+    let all = s .before .before .assess .ensures (a .reply .now) (a .relay .now) refl refl in
+    omega (arith, admitted tables (a .time) (a .connection) (a .m .now) (a .random .now) (a .reply .now) (a .relay .now) (s .before .before .assess .result) all (s .if1 .left) .known)
 
 handle-requires : tie.Need-handle-requires
 handle-requires c κs =
     let s = c .before .before .before .before .before in
     let a = s .before .before .before .before .before .before .before .before .before .before .before .before .before .args in
-    let p = admitted (lent (a .connections .now) (a .leases .now) (a .allowances .now)) (a .time) (a .connection) (a .m .now) (a .random .now) (a .reply .now) (a .relay .now) (s .before .before .refusal .result) (s .before .before .refusal .ensures (a .reply .now) (a .relay .now) refl refl) (s .if1 .left) in
-    search needs
+    let tables = lent (a .connections .now) (a .leases .now) (a .allowances .now) in
+    let all = s .before .before .assess .ensures (a .reply .now) (a .relay .now) refl refl in
+    (admitted tables (a .time) (a .connection) (a .m .now) (a .random .now) (a .reply .now) (a .relay .now) (s .before .before .assess .result) all (s .if1 .left), feasible tables (a .time) (a .connection) (a .m .now) (a .random .now) (a .reply .now) (a .relay .now) (s .before .before .assess .result) all (s .if1 .left))
 
 answered-requires : tie.Need-answered-requires
 answered-requires c κs = search needs
@@ -56,7 +67,9 @@ settle-requires : tie.Need-settle-requires
 settle-requires c κs =
     let s = c .before .before .before .before .before .before .before .before .before .before .before .before .before .before .before .before .before .before .before .before .before .before .before in
     let a = s .before .before .before .before .before .before .before .before .before .before .before .before .before .args in
-    (admitted-length (lent (a .connections .now) (a .leases .now) (a .allowances .now)) (a .time) (a .connection) (a .m .now) (a .random .now) (a .reply .now) (a .relay .now) (s .before .before .refusal .result) (s .before .before .refusal .ensures (a .reply .now) (a .relay .now) refl refl) (s .if1 .left), admitted-payable (lent (a .connections .now) (a .leases .now) (a .allowances .now)) (a .time) (a .connection) (a .m .now) (a .random .now) (a .reply .now) (a .relay .now) (s .before .before .refusal .result) (s .before .before .refusal .ensures (a .reply .now) (a .relay .now) refl refl) (s .if1 .left))
+    let tables = lent (a .connections .now) (a .leases .now) (a .allowances .now) in
+    let all = s .before .before .assess .ensures (a .reply .now) (a .relay .now) refl refl in
+    admitted-payable tables (a .time) (a .connection) (a .m .now) (a .random .now) (a .reply .now) (a .relay .now) (s .before .before .assess .result) all (s .if1 .left)
 
 same-length-4 : tie.Need-same-length-4
 same-length-4 c = search needs
@@ -77,14 +90,16 @@ returns-2 : tie.Need-returns-2
 returns-2 c =
     let s = c .before .before .before .before .before .before .before .before .before .before .before .before .before .before .before .before .before .before .before .before .before .before .before .before .before .before in
     let a = s .before .before .before .before .before .before .before .before .before .before .before .before .before .args in
-    message-way (lent (a .connections .now) (a .leases .now) (a .allowances .now)) (a .time) (a .connection) (a .m .now) (a .random .now) (a .reply .now) (a .relay .now) (s .before .before .refusal .result) (s .before .before .refusal .ensures (a .reply .now) (a .relay .now) refl refl) (s .if1 .left) _ _ _ _ _ _ (c .before .before .before .before .before .before .before .before .before .before .before .before .before .before .before .before .before .before .before .before .handle .result) (c .before .before .before .before .before .before .before .before .before .before .before .before .before .before .before .before .before .before .before .before .handle .ensures)
+    let tables = lent (a .connections .now) (a .leases .now) (a .allowances .now) in
+    let all = s .before .before .assess .ensures (a .reply .now) (a .relay .now) refl refl in
+    message-way tables (a .time) (a .connection) (a .m .now) (a .random .now) (a .reply .now) (a .relay .now) (s .before .before .assess .result) all (s .if1 .left) _ _ _ _ _ _ (c .before .before .before .before .before .before .before .before .before .before .before .before .before .before .before .before .before .before .before .before .handle .result) (c .before .before .before .before .before .before .before .before .before .before .before .before .before .before .before .before .before .before .before .before .handle .ensures)
     (c .before .before .before .before .before .before .sent .ensures ∙ rw (c .before .before .before .before .before .before .before .before .before .before .answered .ensures)) (c .before .before .settle .ensures (a .random .now) (a .reply .now) (a .relay .now))
 
 pub crondelith-message-spec : {M : Type 1} → statement M
 crondelith-message-spec =
     tie.close
     (tie.spec
-    refusal-requires
+    assess-requires
     sent-nothing-requires
     same-length
     same-length-2

@@ -7,6 +7,7 @@ use model::Tables;
 
 use crate::relay::boundary::Call;
 use crate::relay::leases::Asked;
+use crate::relay::prices::{row_of, ROWS};
 use crate::relay::runs::decoded;
 use crate::tally::Tally;
 
@@ -42,6 +43,8 @@ pub struct Reached {
     checks: Tally,
     decisions: Tally,
     headrooms: Tally,
+    /// The checks of the calls with a headroom, by what they cost.
+    prices: Tally,
     /// The checks of the calls that name a length which no buffer has.
     beyond_memory: Tally,
 }
@@ -59,6 +62,10 @@ impl Reached {
             _ => {}
         }
         self.headrooms.count(kind_of_headroom(reason), reason.check);
+        if reason.charged == 1 {
+            let row = row_of(&decoded(tables), call).expect("a charged call");
+            self.prices.count(row.name, reason.check);
+        }
         if call.has_length_beyond_memory() {
             self.beyond_memory.count(call.name(), reason.check);
         }
@@ -70,6 +77,7 @@ impl Reached {
         self.checks.assert_just(&CHECKS);
         self.decisions.assert_just(&DECISIONS);
         self.headrooms.assert_just(&HEADROOMS);
+        self.prices.assert_just(&ROWS.map(|row| (row.name, &[0, 9][..])));
         for (name, _) in CHECKS {
             self.beyond_memory.assert_reached(name, 0, true);
         }
@@ -91,7 +99,7 @@ fn kind_of_headroom(reason: &Reason) -> &'static str {
 
 impl fmt::Display for Reached {
     fn fmt(&self, out: &mut fmt::Formatter) -> fmt::Result {
-        for tally in [&self.decisions, &self.headrooms] {
+        for tally in [&self.decisions, &self.headrooms, &self.prices] {
             tally.write_rows(out)?;
         }
         writeln!(out, "with lengths that no buffer has")?;

@@ -70,12 +70,12 @@ impl Call {
         (connection < model::CONNECTIONS as u64).then_some(connection as usize)
     }
 
-    /// What the call costs, if it is a charged one.
-    pub fn cost(&self) -> Option<u64> {
+    /// "Opens and messages other than SessionEnd are charged", and SessionEnd is of type 9.
+    pub fn is_charged(&self) -> bool {
         match &self.kind {
-            Kind::Open { .. } => Some(model::BASE_COST),
-            Kind::Message { message, .. } => model::cost(message),
-            Kind::Fresh | Kind::Close { .. } | Kind::Keepalive { .. } => None,
+            Kind::Open { .. } => true,
+            Kind::Message { message, .. } => message.first() != Some(&9),
+            Kind::Fresh | Kind::Close { .. } | Kind::Keepalive { .. } => false,
         }
     }
 

@@ -7,6 +7,7 @@ use model::{ANSWER_TIMEOUT, KEEPALIVE_TIMEOUT};
 
 use super::boundary::{Call, Kind};
 use super::mistakes::TIMES_TOO_LATE;
+use super::prices::row_of;
 use super::tables;
 use crate::random::Random;
 
@@ -36,7 +37,7 @@ impl Calls<'_> {
     /// A call that suits the tables, one in three spoiled, in one thing or in several.
     pub fn any(&mut self, relay: &Relay, now: u64) -> Call {
         let connection = self.any_connection(relay);
-        let data = if self.random.one_in(20) { LONG_DATA } else { SHORT_DATA };
+        let data = if self.random.one_in(4) { LONG_DATA } else { SHORT_DATA };
         let mut call = self.suitable(relay, now, connection, data);
         while self.random.one_in(3) {
             self.spoil(&mut call, relay.clock());
@@ -53,11 +54,11 @@ impl Calls<'_> {
         connection
     }
 
-    /// The tables, at times with a level near the call's cost or with a table of another size.
-    pub fn varied(&mut self, tables: &Tables, call: &Call) -> Tables {
+    /// The tables, which are these records, at times with a level near the call's price or with a table of another size.
+    pub fn varied(&mut self, tables: &Tables, relay: &Relay, call: &Call) -> Tables {
         let mut tables = tables.clone();
-        if let (Some(caller), Some(cost), true) = (call.caller(), call.cost(), self.random.one_in(4)) {
-            tables::set_level_near(self.random, &mut tables, partner_of(caller), call.now, cost);
+        if let (Some(caller), Some(row), true) = (call.caller(), row_of(relay, call), self.random.one_in(4)) {
+            tables::set_level_near(self.random, &mut tables, partner_of(caller), call.now, row.price);
         }
         if self.random.one_in(40) {
             tables::resize_one(self.random, &mut tables);
@@ -78,13 +79,32 @@ impl Calls<'_> {
         Call { now, kind: message(connection, bytes, random) }
     }
 
-    /// As much data as the allowance lets pass or a byte more, or much, from a connection of the partner in a session.
+    /// As much data as the allowance lets pass, a byte more, or so many fewer that little is left, or much, from a connection
+    /// of the partner in a session.
     pub fn flood(&mut self, relay: &Relay, now: u64, partner: usize) -> Option<Call> {
         let sender = connections_of(partner).find(|&connection| relay.in_session_with(connection).is_some())?;
         let level = relay.allowances[partner].level_at(now) as usize;
-        let left = level.saturating_sub(BASE_COST as usize + 1);
-        let lengths = [left.min(DATA_LIMIT), (left + 1).min(DATA_LIMIT), self.random.choice(LONG_DATA)];
+        // The type byte and each byte of data are paid for twice: received and relayed.
+        let left = (level.saturating_sub(BASE_COST as usize) / 2).saturating_sub(1);
+        let fewer = left.saturating_sub(self.random.below(75));
+        let lengths = [left, left + 1, fewer, self.random.choice(LONG_DATA)].map(|length| length.min(DATA_LIMIT));
         Some(Call { now, kind: message(sender, self.data(&lengths), self.any_random_bytes()) })
+    }
+
+    /// A send that leaves the partner just as much as some other call costs, or one less, and this call.
+    pub fn leave_price(&mut self, relay: &Relay, now: u64, partner: usize) -> Option<(Call, Call)> {
+        let sender = connections_of(partner).find(|&connection| relay.in_session_with(connection).is_some())?;
+        let connections: Vec<usize> = connections_of(partner).collect();
+        let (caller, data) = (self.random.choice(&connections), self.random.mostly(SHORT_DATA, &[LONG_DATA]));
+        let next = self.suitable(relay, now, caller, data);
+        let level = relay.allowances[partner].level_at(now);
+        let spent = level.checked_sub(BASE_COST + row_of(relay, &next)?.price)?;
+        let length = spent.div_ceil(2) as usize;
+        if !(1..=1 + DATA_LIMIT).contains(&length) {
+            return None;
+        }
+        let send = message(sender, self.data(&[length - 1]), self.any_random_bytes());
+        Some((Call { now, kind: send }, next))
     }
 
     /// The end of a connection that holds a lease of the partner.

@@ -2,7 +2,7 @@
 
 use super::boundary::Boundary;
 use super::calls::Calls;
-use super::runs::{decoded, Run};
+use super::runs::{decoded, Pending, Run};
 use super::{agree, single};
 use crate::difference::Difference;
 use crate::{amount, forms};
@@ -30,9 +30,12 @@ fn run(subject: &impl Boundary, calls: &mut Calls) -> Result<(), Difference> {
     let run = Run::any(calls);
     let (start, anything) = run.start(calls);
     let mut tables = agree::call(subject, &anything, &start)?.lent.tables();
+    let mut pending = Pending::default();
     for _ in 0..CALLS_OF_EACH {
-        let call = run.next(calls, &decoded(&tables));
-        tables = agree::call(subject, &tables, &call)?.lent.tables();
+        let call = run.next(calls, &decoded(&tables), &mut pending);
+        let outcome = agree::call(subject, &tables, &call)?;
+        tables = outcome.lent.tables();
+        pending.note(calls, call, &outcome.answer);
     }
     Ok(())
 }

@@ -10,6 +10,7 @@ pub mod keepalives;
 pub mod leases;
 mod mistakes;
 pub mod monitor;
+pub mod prices;
 pub mod reached;
 pub mod runs;
 pub mod single;

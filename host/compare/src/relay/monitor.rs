@@ -1,11 +1,22 @@
-//! Demand 3, checked on a run from its history alone: the calls with their answers, and nothing from the tables.
+//! Demand 3, checked on a run from its history alone: the calls with their answers, and nothing from the tables. The price
+//! alone by which a refusal is judged needs the relay before the call: "A lease's cost may now hang on ids live elsewhere".
 
 use std::collections::HashMap;
 use std::fmt;
 
+use engine::relay::Answer;
 use model::{partner_of, Relay, LEVEL_LIMIT, PARTNERS, REFILL};
 
 use super::boundary::{Boundary, Call, Lent, Second};
+use super::prices::{cost, row_of};
+use crate::tally::Tally;
+
+/// "the two seconds in 01 become three"
+const RETRY_AFTER: u64 = 3;
+
+/// The names under which calls are counted that were refused with 9 and are made again, by the seconds since.
+const AGAIN: [&str; RETRY_AFTER as usize + 1] =
+    ["again at once", "again a second later", "again two seconds later", "again three or more later"];
 
 /// A call of the history, as far as the allowances are concerned.
 #[derive(Clone, Debug)]
@@ -13,29 +24,33 @@ pub struct Entry {
     pub now: u64,
     /// Whose allowance it is, if there is such a connection.
     pub partner: Option<usize>,
-    /// What the call costs, if it is a charged one.
-    pub cost: Option<u64>,
+    pub charged: bool,
+    /// What a charged call that checks 1 to 8 let pass costs if it is done.
+    pub price: Option<u64>,
     /// The message, or none for another call.
     pub message: Vec<u8>,
-    /// Whether checks 1 to 8 let it pass.
-    pub passes: bool,
-    pub number: u32,
+    pub answer: Answer,
 }
 
 impl Entry {
-    pub fn new(relay: &Relay, call: &Call, number: u32) -> Self {
+    pub fn new(relay: &Relay, call: &Call, answer: Answer) -> Self {
         Self {
             now: call.now,
             partner: call.caller().map(partner_of),
-            cost: call.cost(),
+            charged: call.is_charged(),
+            price: row_of(relay, call).filter(|_| passes(relay, call)).map(|row| row.price),
             message: call.message().to_vec(),
-            passes: passes(relay, call),
-            number,
+            answer,
         }
     }
 
     fn accepted(&self) -> bool {
-        self.number == 0
+        self.answer.number == 0
+    }
+
+    /// Of an accepted charged call what it cost, from the call and its answer alone.
+    fn cost(&self) -> u64 {
+        cost(&self.message, &self.answer)
     }
 }
 
@@ -98,17 +113,29 @@ fn allowed(from: u64, to: u64) -> i64 {
     LEVEL_LIMIT as i64 + REFILL as i64 * (to as i64 - from as i64)
 }
 
+/// Asserts that runs came to refusals that are repeated up to the third second, and to calls accepted from then on.
+pub fn assert_retries(retries: &Tally) {
+    let [at_once, after_one, after_two, after_three] = AGAIN;
+    let reached = [(at_once, 9), (after_one, 9), (after_one, 0), (after_two, 9), (after_two, 0), (after_three, 0)];
+    for (name, number) in reached {
+        retries.assert_reached(name, number, true);
+    }
+    retries.assert_reached(after_three, 9, false);
+}
+
 /// Follows a run call by call.
 pub struct Monitor {
     /// The time of the last accepted call.
     clock: u64,
     partners: [Partner; PARTNERS],
+    /// Calls refused with 9 that were made again before any other was paid for, and their answers.
+    retries: Tally,
 }
 
 impl Monitor {
     /// Of a run that starts at this time.
     pub fn new(start: u64) -> Self {
-        Self { clock: start, partners: Default::default() }
+        Self { clock: start, partners: Default::default(), retries: Tally::default() }
     }
 
     /// Checks the next call of the run against those before it.
@@ -117,23 +144,38 @@ impl Monitor {
         if entry.accepted() {
             self.clock = entry.now;
         }
-        match (entry.partner, entry.cost, entry.number) {
-            (Some(partner), Some(cost), 0) => self.spend(partner, entry.now, cost),
-            (Some(partner), _, 9) => self.note_refusal(partner, entry),
+        match (entry.partner, entry.answer.number) {
+            (Some(partner), 0) if entry.charged => {
+                check_cost(entry)?;
+                self.note_retry(partner, entry);
+                self.spend(partner, entry.now, entry.cost())
+            }
+            (Some(partner), 9) => {
+                self.note_retry(partner, entry);
+                self.note_refusal(partner, entry)
+            }
             _ => Ok(()),
         }
     }
 
     /// 9 exactly when the call passes the checks before, is charged, and costs more than the partner has left.
     fn check_refusal(&self, entry: &Entry) -> Result<(), Fault> {
-        let expected = match (entry.partner, entry.cost) {
-            (Some(partner), Some(cost)) if entry.passes => cost as i64 > self.partners[partner].level(entry.now),
+        let expected = match (entry.partner, entry.price) {
+            (Some(partner), Some(price)) => price as i64 > self.partners[partner].level(entry.now),
             _ => false,
         };
-        if expected == (entry.number == 9) {
+        let number = entry.answer.number;
+        if expected == (number == 9) {
             return Ok(());
         }
-        Err(Fault(format!("answered {}, but over the allowance: {expected}: {}", entry.number, shown(entry))))
+        Err(Fault(format!("answered {number}, but over the allowance: {expected}: {}", shown(entry))))
+    }
+
+    fn note_retry(&mut self, partner: usize, entry: &Entry) {
+        if let Some(first) = self.partners[partner].refused.get(&entry.message) {
+            let seconds = RETRY_AFTER.min(entry.now.saturating_sub(*first));
+            self.retries.count(AGAIN[seconds as usize], entry.answer.number);
+        }
     }
 
     fn spend(&mut self, number: usize, now: u64, cost: u64) -> Result<(), Fault> {
@@ -146,14 +188,19 @@ impl Monitor {
         }
     }
 
-    /// "a partner refused with 9 that then makes no accepted charged call is not refused with 9 for the same bytes two
-    /// seconds of clock later"
+    /// "a partner refused with 9 that then makes no accepted charged call is not refused with 9 for the same bytes
+    /// [three] seconds of clock later"
     fn note_refusal(&mut self, partner: usize, entry: &Entry) -> Result<(), Fault> {
         let first = *self.partners[partner].refused.entry(entry.message.clone()).or_insert(entry.now);
-        if entry.now < first + 2 {
+        if entry.now < first + RETRY_AFTER {
             return Ok(());
         }
         Err(Fault(format!("refused at {first} and still: {}", shown(entry))))
+    }
+
+    /// Adds the calls made again to those of other runs.
+    pub fn count_retries(&self, retries: &mut Tally) {
+        retries.merge(&self.retries);
     }
 
     /// Checks that the level each partner has in the tables is that from history, now and at later times.
@@ -174,7 +221,15 @@ impl Monitor {
     }
 }
 
+/// The cost that stands in history is the price by which the call was judged.
+fn check_cost(entry: &Entry) -> Result<(), Fault> {
+    match entry.price {
+        Some(price) if price != entry.cost() => Err(Fault(format!("cost {}: {}", entry.cost(), shown(entry)))),
+        _ => Ok(()),
+    }
+}
+
 fn shown(entry: &Entry) -> String {
-    let Entry { now, partner, cost, message, .. } = entry;
-    format!("at {now}, partner {partner:?}, cost {cost:?}, {}", crate::difference::shown(message))
+    let Entry { now, partner, price, message, .. } = entry;
+    format!("at {now}, partner {partner:?}, price {price:?}, {}", crate::difference::shown(message))
 }

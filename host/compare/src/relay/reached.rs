@@ -8,6 +8,7 @@ use super::agree::Outcome;
 use super::boundary::{Call, Kind};
 use super::keepalives::{Found, Outcomes};
 use super::leases::{self, Asked, LastHolders};
+use super::prices;
 use crate::tally::Tally;
 
 /// The name under which each status of an establish request is counted.
@@ -40,6 +41,8 @@ pub struct Reached {
     effects: Tally,
     /// What concerns keepalives.
     keepalives: Found,
+    /// What charged calls cost.
+    pub prices: prices::Reached,
 }
 
 impl Reached {
@@ -48,6 +51,7 @@ impl Reached {
         self.answers.count(call.name(), outcome.answer.number);
         if let (Some(relay), Some(caller)) = (Relay::decode(tables), call.caller()) {
             self.keepalives.count(&relay, call, caller, outcome);
+            self.prices.count(&relay, call, &outcome.answer);
             if outcome.answer.number == 0 {
                 count_effects(&mut self.effects, &relay, call, caller, outcome);
             }
@@ -62,7 +66,7 @@ impl Reached {
     }
 
     /// Asserts that each function had just these answers, and that all effects were reached, these and these outcomes of
-    /// keepalives among them.
+    /// keepalives among them, and every price.
     pub fn assert_all(&self, answers: &[(&str, &[u32])], further: &[&str], keepalives: &[Outcomes]) {
         println!("{self}");
         self.answers.assert_just(answers);
@@ -73,6 +77,7 @@ impl Reached {
             self.effects.assert_reached(name, 0, true);
         }
         self.keepalives.assert_reached(keepalives);
+        self.prices.assert_rows();
     }
 }
 
@@ -97,7 +102,7 @@ fn count_effects(effects: &mut Tally, relay: &Relay, call: &Call, caller: usize,
         Kind::Keepalive { .. } => {}
     }
     let spent = |partner: usize| relay.allowances[partner].level_at(call.now) < model::BASE_COST;
-    if call.cost().is_some() && (0..PARTNERS).any(spent) {
+    if call.is_charged() && (0..PARTNERS).any(spent) {
         effects.count("charged beside a spent one", 0);
     }
 }

@@ -9,6 +9,8 @@ use super::boundary::{Boundary, Call, Kind, Lent};
 use super::calls::{connections_of, Calls, LONG_DATA, SHORT_DATA};
 use super::connection_monitor::ConnectionMonitor;
 use super::monitor::{Entry, Fault, Monitor};
+use super::prices;
+use crate::tally::Tally;
 
 /// How the clock goes between two calls.
 #[derive(Clone, Copy, Debug)]
@@ -19,6 +21,20 @@ enum Clock {
     Steps,
     /// Stands mostly, and at times jumps as far as a lease lasts.
     Jumps,
+}
+
+/// A call that a run has in mind: one for which just its price was left, or one refused with 9, to be made again.
+#[derive(Default)]
+pub struct Pending(Option<Call>);
+
+impl Pending {
+    /// Of the calls refused with 9 every other one is made again, up to three seconds later.
+    pub fn note(&mut self, calls: &mut Calls, call: Call, answer: &Answer) {
+        if answer.number == 9 && calls.random.one_in(2) {
+            let now = call.now + calls.random.choice(&[0, 1, 2, 2, 3]);
+            self.0 = Some(Call { now: now.min(TIME_LIMIT - 1), ..call });
+        }
+    }
 }
 
 /// What a run is like.
@@ -57,9 +73,24 @@ impl Run {
         (Call { now: self.start, kind: Kind::Fresh }, Tables { connections, leases, allowances })
     }
 
-    /// The next call, one in six spoiled, in one thing or in several.
-    pub fn next(&self, calls: &mut Calls, relay: &Relay) -> Call {
+    /// The next call: one that the run has in mind, or any.
+    pub fn next(&self, calls: &mut Calls, relay: &Relay, pending: &mut Pending) -> Call {
+        if let Some(call) = pending.0.take() {
+            return call;
+        }
         let now = self.tick(calls, relay.clock());
+        if calls.random.one_in(7) {
+            let partner = self.flooding.unwrap_or_else(|| calls.random.below(self.partners));
+            if let Some((send, next)) = calls.leave_price(relay, now, partner) {
+                pending.0 = Some(next);
+                return send;
+            }
+        }
+        self.any_call(calls, relay, now)
+    }
+
+    /// A call, one in six spoiled, in one thing or in several.
+    fn any_call(&self, calls: &mut Calls, relay: &Relay, now: u64) -> Call {
         let mut call = match self.flooding {
             Some(partner) if calls.random.one_in(2) => self.flooding_call(calls, relay, now, partner),
             _ => {
@@ -85,13 +116,15 @@ impl Run {
         let (start, anything) = self.start(calls);
         let mut lent = Lent::new(&anything, &start);
         subject.call(&start, &mut lent);
+        let mut pending = Pending::default();
         for _ in 0..length {
             let tables = lent.tables();
             let before = decoded(&tables);
-            let call = self.next(calls, &before);
+            let call = self.next(calls, &before, &mut pending);
             lent = Lent::new(&tables, &call);
             let answer = subject.call(&call, &mut lent);
             show(&before, &call, &answer, &decoded(&lent.tables()))?;
+            pending.note(calls, call, &answer);
         }
         Ok(())
     }
@@ -138,14 +171,26 @@ fn any_call_of(calls: &mut Calls, relay: &Relay, now: u64, partner: usize, data:
     calls.suitable(relay, now, connection, data)
 }
 
+/// What runs came to that the monitor of the allowances followed.
+#[derive(Default)]
+pub struct Followed {
+    pub calls: u64,
+    pub prices: prices::Reached,
+    pub retries: Tally,
+}
+
 /// Makes a run of one relay by itself, followed by the monitor of the allowances.
-pub fn follow(subject: &impl Boundary, calls: &mut Calls, length: usize) -> Result<(), Fault> {
+pub fn follow(subject: &impl Boundary, calls: &mut Calls, length: usize, followed: &mut Followed) -> Result<(), Fault> {
     let run = Run::any(calls);
     let mut monitor = Monitor::new(run.start);
     run.alone(subject, calls, length, |before, call, answer, after| {
-        monitor.record(&Entry::new(before, call, answer.number))?;
+        followed.calls += 1;
+        followed.prices.count(before, call, answer);
+        monitor.record(&Entry::new(before, call, *answer))?;
         monitor.check_levels(after)
-    })
+    })?;
+    monitor.count_retries(&mut followed.retries);
+    Ok(())
 }
 
 /// Makes a run of one relay by itself, followed by the monitor of dead connections.

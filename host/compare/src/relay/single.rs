@@ -21,7 +21,7 @@ pub fn calls(
         let relay = Relay::decode(&tables).expect("tables of the right sizes");
         for _ in 0..CALLS_ON_EACH {
             let call = calls.any(&relay, now);
-            let varied = calls.varied(&tables, &call);
+            let varied = calls.varied(&tables, &relay, &call);
             take(calls, &varied, call)?;
         }
     }

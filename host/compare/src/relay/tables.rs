@@ -2,15 +2,15 @@
 
 use model::{Relay, Tables, ANSWER_TIMEOUT, CONNECTIONS, KEEPALIVE_TIMEOUT, LEASES, LEVEL_LIMIT, PARTNERS, TIME_LIMIT};
 
+use super::prices::ROWS;
 use crate::random::Random;
 
 const CONNECTION_LENGTH: usize = 64;
 const LEASE_LENGTH: usize = 40;
 const ALLOWANCE_LENGTH: usize = 16;
 
-/// Levels around what calls cost (32 and more, at most 65,566) and around the limit.
-const LEVELS: [u64; 13] =
-    [0, 31, 32, 33, 34, 57, 58, 65_565, 65_566, LEVEL_LIMIT - 1, LEVEL_LIMIT, LEVEL_LIMIT + 1, u64::MAX];
+/// Levels that pay for nothing, and around the limit.
+const LEVELS: [u64; 7] = [0, 31, 32, LEVEL_LIMIT - 1, LEVEL_LIMIT, LEVEL_LIMIT + 1, u64::MAX];
 
 /// Ids that come again and again, some of them not below 2^26.
 const IDS: [u32; 10] = [0, 1, 2, 3, 4, 5, (1 << 26) - 1, 1 << 26, (1 << 26) + 1, u32::MAX];
@@ -154,7 +154,11 @@ fn repeat_ids(random: &mut Random, leases: &mut [u8]) {
 }
 
 fn allowance(random: &mut Random, now: u64) -> Vec<u8> {
-    let level = if random.one_in(4) { random.below(300_000) as u64 } else { random.choice(&LEVELS) };
+    let level = match random.below(8) {
+        0..2 => random.below(300_000) as u64,
+        2..5 => random.choice(&ROWS).price + random.below(3) as u64 - 1,
+        _ => random.choice(&LEVELS),
+    };
     let updated = match random.below(8) {
         0..3 => now,
         3..6 => now.saturating_sub(1 + random.below(5) as u64),
@@ -182,13 +186,14 @@ fn zeros_or_bytes(random: &mut Random, length: usize) -> Vec<u8> {
     }
 }
 
-/// Brings a partner's level at this time to the cost, or to one more or less.
-pub fn set_level_near(random: &mut Random, tables: &mut Tables, partner: usize, now: u64, cost: u64) {
+/// Brings a partner's level at this time to the price, or to one more or less, mostly as far as it can by seconds that
+/// have passed.
+pub fn set_level_near(random: &mut Random, tables: &mut Tables, partner: usize, now: u64, price: u64) {
     let mut relay = Relay::decode(tables).expect("tables of the right sizes");
     let allowance = &mut relay.allowances[partner];
-    let seconds = (cost - 1) / model::REFILL;
-    allowance.level = random.choice(&[cost - 1, cost, cost, cost + 1]) - seconds * model::REFILL;
-    allowance.updated = now.saturating_sub(seconds);
+    let seconds = random.mostly((price - 1) / model::REFILL, &[0]).min(now);
+    allowance.level = random.choice(&[price - 1, price, price, price + 1]) - seconds * model::REFILL;
+    allowance.updated = now - seconds;
     *tables = relay.encode();
 }
 

@@ -192,12 +192,16 @@ pub const WRONG_ASKED: [Overlooked<Spoil>; 11] = [
     }),
 ];
 
-/// Takes an open's cost from the caller's partner where this is done.
+/// What a call would cost that sends one byte.
+const KEEPALIVE_PRICE: u64 = 33;
+
+/// Takes the price of the Keepalive from the caller's partner where this is done.
 fn charge(made: &Made, due: Due, lent: &mut Lent) {
     if made.due == Some(due) {
         edit(lent, |relay| {
             let allowance = &mut relay.allowances[partner_of(made.caller)];
-            (allowance.level, allowance.updated) = (allowance.level_at(made.now()).saturating_sub(32), made.now());
+            (allowance.level, allowance.updated) =
+                (allowance.level_at(made.now()).saturating_sub(KEEPALIVE_PRICE), made.now());
         });
     }
 }
@@ -214,7 +218,8 @@ pub const WRONG_COSTS: [Overlooked<Spoil>; 8] = [
     ("that closing is free", true, |made, _, _, lent| charge(made, Due::Close, lent)),
     ("that finding nothing is free", true, |made, _, _, lent| charge(made, Due::Nothing, lent)),
     ("that it is free for who has spent all", true, |made, answer, before, lent| {
-        if made.due.is_some() && made.before.allowances[partner_of(made.caller)].level_at(made.now()) < 32 {
+        if made.due.is_some() && made.before.allowances[partner_of(made.caller)].level_at(made.now()) < KEEPALIVE_PRICE
+        {
             (*answer, *lent) = (Answer::from([9, 0, 0, NOBODY, 0]), before.clone());
         }
     }),

@@ -8,7 +8,7 @@ use compare::difference::Difference;
 use compare::relay::boundary::{Boundary, Lent};
 use compare::relay::calls::Calls;
 use compare::relay::compared::{self, CALLS_OF_EACH, RUNS};
-use compare::relay::runs::{decoded, doubled_id, Run};
+use compare::relay::runs::{decoded, doubled_id, Pending, Run};
 use compare::{amount, forms};
 use leasing::{Leasing, RIGHT};
 use model::Part;
@@ -27,9 +27,10 @@ fn run_doubles_an_id(subject: &Leasing, calls: &mut Calls) -> bool {
     let (start, mut tables) = run.start(calls);
     let mut lent = Lent::new(&tables, &start);
     subject.call(&start, &mut lent);
+    let mut pending = Pending::default();
     (0..CALLS_OF_EACH).any(|_| {
         tables = lent.tables();
-        let call = run.next(calls, &decoded(&tables));
+        let call = run.next(calls, &decoded(&tables), &mut pending);
         lent = Lent::new(&tables, &call);
         subject.call(&call, &mut lent);
         doubled_id(&decoded(&lent.tables())).is_some()

@@ -2,7 +2,7 @@
 
 use engine::reasons::{self, Reason, Tables};
 use engine::relay::{self, Answer, BUFFER};
-use server::{calls, CLOCK_LIMIT, CONNECTIONS_EACH, PARTNERS};
+use server::{CLOCK_LIMIT, CONNECTIONS_EACH, PARTNERS};
 
 /// Connections have numbers below it.
 pub const CONNECTIONS: u64 = (PARTNERS * CONNECTIONS_EACH) as u64;
@@ -65,7 +65,8 @@ impl Call {
     }
 
     /// When a call that can't be paid now can be, at the earliest, if its partner makes no charged call meanwhile. What a
-    /// partner has then only grows, so the first such time is found by halving. None if the clock ends before.
+    /// partner has then only grows, so the first such time is found by halving. None if the clock ends before. Data costs
+    /// the same at any time; what a request costs may change as leases end, but a second's refill pays for any.
     pub fn payable_at(&self, tables: Tables) -> Option<u64> {
         let is_short = |time| self.reason_at(tables, time).shortfall().is_some();
         let (mut short, mut enough) = (self.time, CLOCK_LIMIT - 1);
@@ -89,11 +90,6 @@ impl Call {
             Action::Message { message, .. } => Some(message),
             _ => None,
         }
-    }
-
-    /// What it costs if it is charged.
-    pub fn cost(&self) -> usize {
-        calls::cost(self.message().map_or(0, <[u8]>::len))
     }
 
     /// The partner that the connection belongs to, if there is such a connection.

@@ -12,6 +12,8 @@ pub struct Explanation {
     /// That of the tables: the time of the last call that was done.
     pub clock: u64,
     pub reason: Reason,
+    /// What the partner has at the call's time, if there is such a partner.
+    pub level: Option<u64>,
     /// When a call that can't be paid now can be.
     pub payable_at: Option<u64>,
     /// What a keepalive check would do.
@@ -46,9 +48,10 @@ pub enum Decision {
 impl Explanation {
     pub fn new(call: Call, tables: &Tables) -> Self {
         let reason = call.reason(tables.view());
+        let level = call.partner().map(|partner| tables.level(partner as usize, call.time));
         let payable_at = reason.shortfall().and_then(|_| call.payable_at(tables.view()));
         let due = call.due(tables).filter(|_| reason.check == 0);
-        Self { call, clock: tables.clock(), reason, payable_at, due }
+        Self { call, clock: tables.clock(), reason, level, payable_at, due }
     }
 
     /// The check that stops the call, if any.
@@ -56,14 +59,15 @@ impl Explanation {
         (self.reason.check != 0).then_some(Refusal(self.reason.check))
     }
 
+    /// The engine tells what is left, or missing: with the level, that is what the call costs.
     pub fn allowance(&self) -> Option<Allowance> {
-        let Reason { charged, headroom, .. } = self.reason;
-        let cost = self.call.cost() as u64;
-        let after = match self.reason.shortfall() {
-            Some(units) => After::Short(units),
-            None => After::Left(headroom.unsigned_abs()),
+        let level = self.level.filter(|_| self.reason.charged == 1)?;
+        let units = self.reason.headroom.unsigned_abs();
+        let (cost, after) = match self.reason.shortfall() {
+            Some(_) => (level + units, After::Short(units)),
+            None => (level - units, After::Left(units)),
         };
-        (charged == 1).then(|| Allowance { cost, level: cost.saturating_add_signed(headroom), after })
+        Some(Allowance { cost, level, after })
     }
 
     /// Whether the call is one that nobody pays for. A check before the allowance's leaves it open.

@@ -50,6 +50,10 @@ seconds it can be paid. For instance, a lease request from connection 9, now:
 
   crondelith explain relay.state message --connection 9 --hex 0200 --time $(date +%s)
 
+A call costs 32, the bytes received and the bytes that are sent for it, with these tables and at
+that time: a lease costs 72 if it is accepted and else 36, a session 140 if it is established and
+else 43. When leases have ended or others have been given out, it may be the other of the two.
+
 A request with a cookie is 24 bytes longer, and costs 24 units more. Which cookie it is changes
 nothing of what is told, so zeros stand for any: 0201 and 48 times 0. A real one is a secret, and
 others can see the words of a command.

@@ -14,6 +14,7 @@ const CLOCK: u64 = 1_794_812_909;
 const NOW: &str = "Time:       1794812909 (2026-11-16T07:08:29Z), the file's clock";
 /// The second of partner 1.
 const CONNECTION: u64 = CONNECTIONS_EACH as u64 + 1;
+const FULL: u64 = 262_144;
 /// Bytes of the longest message.
 const LONGEST: usize = 65_534;
 const NOT_CHARGED: &str = "Cost:       nothing, a call refused so isn't charged";
@@ -37,11 +38,16 @@ const MALFORMED: [(&[u8], &str); 7] = [
     (&[13, 0], "a message of type 13 (keepalive) has 1 byte"),
 ];
 
-/// A call of the connection, at the clock's time.
+/// A call of the connection, at the clock's time, when the partner has all that it can have.
 fn explanation(action: Action, reason: Reason) -> Explanation {
     let call = Call { connection: CONNECTION, time: CLOCK, action };
-    let payable_at = reason.shortfall().map(|units| CLOCK + units.div_ceil(65_536));
-    Explanation { call, clock: CLOCK, reason, payable_at, due: None }
+    Explanation { call, clock: CLOCK, reason, level: Some(FULL), payable_at: None, due: None }
+}
+
+/// Likewise one that its partner has so many units for, and is short of some.
+fn short(action: Action, level: u64, shortfall: u64) -> Explanation {
+    let payable_at = Some(CLOCK + shortfall.div_ceil(65_536));
+    Explanation { level: Some(level), payable_at, ..explanation(action, charged(9, -(shortfall as i64))) }
 }
 
 fn refused(check: u32) -> Reason {
@@ -69,31 +75,32 @@ fn assert_text(explanation: &Explanation, lines: &[&str]) {
 
 #[test]
 fn a_call_that_is_done_has_its_cost_and_what_is_left() {
-    let told = explanation(OPEN, charged(0, 262_112));
+    let told = explanation(OPEN, charged(0, 262_099));
     assert_text(
         &told,
         &[
             &format!("Call:       open of connection {CONNECTION} of partner 1"),
             NOW,
             "Answer:     0, it would be done",
-            "Cost:       32 units",
-            "Allowance:  the partner has 262,144 units and keeps 262,112",
+            "Cost:       45 units",
+            "Allowance:  the partner has 262,144 units and keeps 262,099",
         ],
     );
     let expected = json!({
         "call": "open", "connection": CONNECTION, "partner": 1, "time": CLOCK, "clock": CLOCK, "check": 0, "done": true,
-        "free": false, "cost": 32, "level": 262_144, "headroom": 262_112, "left": 262_112,
+        "free": false, "cost": 45, "level": FULL, "headroom": 262_099, "left": 262_099,
     });
     assert_eq!(told.to_json(), expected);
     // Equal cost and level passes.
-    let told = explanation(message(&[13]), charged(0, 0));
+    let told = Explanation { level: Some(33), ..explanation(message(&[13]), charged(0, 0)) };
+    assert_eq!(line(&told, "Cost:").expect("a cost"), "33 units");
     assert_eq!(line(&told, "Allowance:").expect("a level"), "the partner has 33 units and keeps 0");
     assert_eq!((&told.to_json()["left"], told.to_json().get("shortfall")), (&json!(0), None));
 }
 
 #[test]
 fn what_is_missing_is_told_with_the_time_when_it_is_there() {
-    let told = explanation(OPEN, charged(9, -12));
+    let told = short(OPEN, 20, 25);
     assert_text(
         &told,
         &[
@@ -101,8 +108,8 @@ fn what_is_missing_is_told_with_the_time_when_it_is_there() {
             NOW,
             "Answer:     9, it would be refused: the partner's allowance is used up",
             "Meaning:    the call costs more than the partner has at that time",
-            "Cost:       32 units",
-            "Allowance:  the partner has 20 units, 12 too few",
+            "Cost:       45 units",
+            "Allowance:  the partner has 20 units, 25 too few",
             "Payable:    in 1 second, at 1794812910 (2026-11-16T07:08:30Z), if the partner makes no charged call meanwhile",
         ],
     );
@@ -110,14 +117,15 @@ fn what_is_missing_is_told_with_the_time_when_it_is_there() {
         "call": "open", "connection": CONNECTION, "partner": 1, "time": CLOCK, "clock": CLOCK, "check": 9, "done": false,
         "reason": "the partner's allowance is used up",
         "meaning": "the call costs more than the partner has at that time",
-        "free": false, "cost": 32, "level": 20, "headroom": -12, "shortfall": 12,
+        "free": false, "cost": 45, "level": 20, "headroom": -25, "shortfall": 25,
         "payable_at": CLOCK + 1, "payable_after": 1,
     });
     assert_eq!(told.to_json(), expected);
-    let told = explanation(message(&[11; LONGEST]), charged(9, -65_566));
+    let told = short(message(&[11; LONGEST]), 0, 131_100);
     let payable = line(&told, "Payable:").expect("a time");
-    assert!(payable.starts_with("in 2 seconds, at 1794812911 ("), "{payable}");
-    assert_eq!(line(&told, "Allowance:").expect("a level"), "the partner has 0 units, 65,566 too few");
+    assert!(payable.starts_with("in 3 seconds, at 1794812912 ("), "{payable}");
+    assert_eq!(line(&told, "Cost:").expect("a cost"), "131,100 units");
+    assert_eq!(line(&told, "Allowance:").expect("a level"), "the partner has 0 units, 131,100 too few");
     assert_eq!(line(&told, "Follows:").expect("what the relay does"), "the message waits");
     let late = Explanation { payable_at: Some(CLOCK + 1_234), ..told };
     let payable = line(&late, "Payable:").expect("a time");
@@ -221,7 +229,7 @@ fn what_a_running_relay_does_is_told_of_messages_that_peers_can_send() {
         assert_eq!(follows(message(&[11]), check), None);
     }
     assert_eq!(follows(OPEN, 4), None);
-    assert_eq!(line(&explanation(OPEN, charged(9, -1)), "Follows:"), None);
+    assert_eq!(line(&short(OPEN, 44, 1), "Follows:"), None);
     // The longest message that a frame holds, and one that none does.
     assert_eq!(follows(message(&[3; LONGEST]), 6).as_deref(), Some("the connection is closed"));
     assert_eq!(follows(message(&[3; LONGEST + 1]), 6), None);
@@ -288,7 +296,7 @@ fn each_status_has_words() {
 #[test]
 fn any_numbers_have_words() {
     let call = Call { connection: u64::MAX, time: u64::MAX, action: OPEN };
-    let told = Explanation { call, clock: 0, reason: refused(2), payable_at: None, due: None };
+    let told = Explanation { call, clock: 0, reason: refused(2), level: None, payable_at: None, due: None };
     assert_eq!(line(&told, "Call:").expect("a call"), "open of connection 18446744073709551615");
     assert_eq!(line(&told, "Time:").expect("a time"), "18446744073709551615; the file's clock is at 0");
     assert_eq!(line(&told, "Meaning:").expect("words"), "times are below 1,099,511,627,776");
@@ -298,7 +306,7 @@ fn any_numbers_have_words() {
 
 #[test]
 fn the_help_names_every_field() {
-    let short = explanation(message(&[2, 0]), charged(9, -1));
+    let short = short(message(&[2, 0]), 71, 1);
     let lease = explanation(message(&[2, 0]), decided(LEASE, 1));
     let session = explanation(message(&[6, 0, 0, 0, 5]), decided(ESTABLISH, 1));
     let objects = [short, lease, session].map(|told| told.to_json());
@@ -313,7 +321,7 @@ fn the_help_names_every_field() {
 fn numbers_at_their_limits_have_words() {
     let told = |connection, time| {
         let call = Call { connection, time, action: OPEN };
-        Explanation { call, clock: 0, reason: refused(2), payable_at: None, due: None }
+        Explanation { call, clock: 0, reason: refused(2), level: None, payable_at: None, due: None }
     };
     assert_eq!(line(&told(0, CLOCK_LIMIT), "Meaning:").expect("words"), "times are below 1,099,511,627,776");
     let last = told(CONNECTIONS - 1, 0);

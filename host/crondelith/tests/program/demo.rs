@@ -4,7 +4,7 @@ use std::time::Duration;
 
 use crate::support::{program, Running};
 
-/// 512 KiB less the allowance of 262,144, at 65,536 a second, in seconds as the demonstration rounds them.
+/// Twice 256 KiB less the allowance of 262,144, at 65,536 a second, in seconds as the demonstration rounds them.
 const ALLOWED: f64 = 3.9;
 /// What the flood may add.
 const HARM: f64 = 1.5;

@@ -137,6 +137,7 @@ fn await_saved(condition: impl FnMut() -> bool) {
 struct Scene {
     state: PathBuf,
     id: u32,
+    cookie: Vec<u8>,
     _relay: Relay,
     _peers: [Peer; 2],
     _greeted: TcpStream,
@@ -146,13 +147,13 @@ impl Scene {
     fn start(name: &str) -> Self {
         let (relay, state) = relay(name);
         let mut holder = peer(&relay);
-        let (id, _) = lease(&mut holder);
+        let (id, cookie) = lease(&mut holder);
         let second = peer(&relay);
         let mut greeted = TcpStream::connect(("127.0.0.1", relay.base_port + PARTNER as u16)).expect("it listens");
         greeted.read_exact(&mut [0; 16]).expect("the version");
         await_saved(|| explain_message(&state, THIRD, KEEPALIVE, &[])["check"] == 7);
         await_saved(|| explain_message(&state, SECOND, KEEPALIVE, &[])["check"] == 0);
-        Self { state, id, _relay: relay, _peers: [holder, second], _greeted: greeted }
+        Self { state, id, cookie, _relay: relay, _peers: [holder, second], _greeted: greeted }
     }
 }
 

@@ -1,6 +1,7 @@
 //! The second relay, on the papers' examples.
 
 mod keepalives;
+mod prices;
 mod reasons;
 mod renewals;
 mod support;

@@ -3,7 +3,7 @@
 use model::reasons::{self, Outcome, Reason};
 use model::{close, Condition, Refusal, Relay, State, Tables, LEVEL_LIMIT, TIME_LIMIT};
 
-use crate::support::{relay, relay_in_session, relay_with, send, set_allowance, RANDOM};
+use crate::support::{relay, relay_in_session, relay_with, relay_with_a_lease, send, set_allowance, RANDOM};
 
 const LEASE_REQUEST: &[u8] = &[2, 0];
 const ESTABLISH_WITH_ID_1: &[u8] = &[6, 0, 0, 0, 1];
@@ -34,18 +34,21 @@ fn stopped(check: Refusal) -> Reason {
 
 #[test]
 fn the_headroom_is_what_would_be_left_or_what_is_missing() {
-    assert_eq!(explain_open(&relay(100)).numbers(), ([0, 0, 0, 1], 262_112));
-    assert_eq!(explain_open(&at_level(relay(100), 33)).numbers(), ([0, 0, 0, 1], 1));
-    assert_eq!(explain_open(&at_level(relay(100), 32)).numbers(), ([0, 0, 0, 1], 0));
-    assert_eq!(explain_open(&at_level(relay(100), 31)).numbers(), ([9, 0, 0, 1], -1));
-    assert_eq!(explain_open(&at_level(relay(100), 20)).numbers(), ([9, 0, 0, 1], -12));
+    assert_eq!(explain_open(&relay(100)).numbers(), ([0, 0, 0, 1], 262_099));
+    assert_eq!(explain_open(&at_level(relay(100), 46)).numbers(), ([0, 0, 0, 1], 1));
+    assert_eq!(explain_open(&at_level(relay(100), 45)).numbers(), ([0, 0, 0, 1], 0));
+    assert_eq!(explain_open(&at_level(relay(100), 44)).numbers(), ([9, 0, 0, 1], -1));
+    assert_eq!(explain_open(&at_level(relay(100), 20)).numbers(), ([9, 0, 0, 1], -25));
 }
 
 #[test]
 fn a_lease_or_an_establish_that_can_t_be_paid_is_not_decided() {
-    let tables = at_level(relay_with(100, &[0]), 10);
-    assert_eq!(explain_message(&tables, 0, LEASE_REQUEST).numbers(), ([9, 0, 0, 1], -24));
-    assert_eq!(explain_message(&tables, 0, ESTABLISH_WITH_ID_1).numbers(), ([9, 0, 0, 1], -27));
+    let (tables, without_rows) = (at_level(relay_with_a_lease(), 10), at_level(relay_with(100, &[0]), 10));
+    // What would be decided stands in the price alone: granted and refused, established and refused.
+    assert_eq!(explain_message(&tables, 0, LEASE_REQUEST).numbers(), ([9, 0, 0, 1], -26));
+    assert_eq!(explain_message(&without_rows, 0, LEASE_REQUEST).numbers(), ([9, 0, 0, 1], -62));
+    assert_eq!(explain_message(&tables, 0, ESTABLISH_WITH_ID_1).numbers(), ([9, 0, 0, 1], -130));
+    assert_eq!(explain_message(&tables, 1, ESTABLISH_WITH_ID_1).numbers(), ([9, 0, 0, 1], -33));
 }
 
 #[test]
@@ -105,18 +108,12 @@ fn the_first_condition_of_a_lease_that_fails() {
         let tables = relay_with_live_rows(rows);
         let number = failed.map_or(0, |condition| condition as u32);
         let reason = |request: &[u8]| reasons::message(&tables, 100, caller, request, &random, 64, 64);
+        let [left, left_with_cookie] = if failed.is_some() { [262_108, 262_084] } else { [262_072, 262_048] };
         assert_eq!(reason(LEASE_REQUEST).outcome, Outcome::Lease { failed });
-        assert_eq!(reason(LEASE_REQUEST).numbers(), ([0, 1, number, 1], 262_110));
+        assert_eq!(reason(LEASE_REQUEST).numbers(), ([0, 1, number, 1], left));
         // "decided as in 01, cookie or not"
-        assert_eq!(reason(&with_cookie).numbers(), ([0, 1, number, 1], 262_086));
+        assert_eq!(reason(&with_cookie).numbers(), ([0, 1, number, 1], left_with_cookie));
     }
-}
-
-/// Connection 1 holds id 1, connections 0 and 2 nothing; all are open and free.
-fn relay_with_a_lease() -> Tables {
-    let mut tables = relay_with(100, &[0, 1, 2]);
-    assert_eq!(send(&mut tables, 100, 1, LEASE_REQUEST).reply[..2], [3, 1]);
-    tables
 }
 
 #[test]
@@ -136,8 +133,9 @@ fn the_status_of_an_establish() {
     ];
     for (status, tables, caller) in cases {
         let reason = explain_message(&at_level(tables, LEVEL_LIMIT), caller, ESTABLISH_WITH_ID_1);
-        assert_eq!(reason, Reason { outcome: Outcome::Establish { status }, headroom: Some(262_107) });
-        assert_eq!(reason.numbers(), ([0, 2, status.into(), 1], 262_107));
+        let left = if status == 0 { 262_004 } else { 262_101 };
+        assert_eq!(reason, Reason { outcome: Outcome::Establish { status }, headroom: Some(left) });
+        assert_eq!(reason.numbers(), ([0, 2, status.into(), 1], left));
     }
 }
 

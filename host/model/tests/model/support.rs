@@ -52,6 +52,18 @@ pub fn set_allowance(tables: &mut Tables, level: u64, updated: u64) {
     *tables = relay.encode();
 }
 
+/// Connection 1 holds id 1, connections 0 and 2 nothing; all are open and free.
+pub fn relay_with_a_lease() -> Tables {
+    let mut tables = relay_with(100, &[0, 1, 2]);
+    assert_eq!(send(&mut tables, 100, 1, &[2, 0]).reply[..2], [3, 1]);
+    tables
+}
+
+/// The level of partner 0.
+pub fn level(tables: &Tables) -> u64 {
+    Relay::decode(tables).expect("tables of the right sizes").allowances[0].level
+}
+
 /// Connection 0 in a session with connection 1, which holds id 1.
 pub fn relay_in_session(now: u64) -> Tables {
     let mut tables = relay_with(now, &[0, 1]);

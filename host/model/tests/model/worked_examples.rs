@@ -1,12 +1,8 @@
-//! The scope's twelve worked examples, by their numbers there, through the calls.
+//! The scope's twelve worked examples, by their numbers there, the eighth as request 5 restates it, through the calls.
 
-use model::{close, fresh, open, Answer, Relay, Tables, LEVEL_LIMIT, NOBODY, TIME_LIMIT};
+use model::{close, fresh, open, Answer, LEVEL_LIMIT, NOBODY, TIME_LIMIT};
 
-use crate::support::{establish_with_id_1, relay, relay_in_session, relay_with, send, set_allowance};
-
-fn level(tables: &Tables) -> u64 {
-    Relay::decode(tables).expect("tables of the right sizes").allowances[0].level
-}
+use crate::support::{establish_with_id_1, level, relay, relay_in_session, relay_with, send, set_allowance};
 
 #[test]
 fn case_1_empty_message() {
@@ -60,7 +56,7 @@ fn case_7_refill() {
 #[test]
 fn case_8_the_longest_send() {
     let longest = [11; 65_534];
-    for (before, number, after) in [(65_565, 9, 65_565), (65_566, 0, 0)] {
+    for (before, number, after) in [(131_099, 9, 131_099), (131_100, 0, 0)] {
         let mut tables = relay_in_session(100);
         set_allowance(&mut tables, before, 100);
         assert_eq!(send(&mut tables, 100, 0, &longest).answer.number, number);

@@ -5,14 +5,15 @@ use std::time::Duration;
 use engine::relay::{Answer, RANDOM};
 
 use super::EventLoop;
-use crate::calls::{cost, relay_length};
+use crate::calls::{greatest_cost, relay_length};
 use crate::connection::{Connection, End, Hold, Phase};
 use crate::log::Said;
 use crate::message::{DATA_SEND, ESTABLISH_REQUEST, LEASE_REQUEST};
 use crate::refusal::{Consequence, Refusal, ShortRefusal};
 
-/// What a partner's messages may cost in a turn if no other has any: so much that the turn's own cost hardly counts.
-const TURN: usize = 131_072;
+/// What a partner's messages may cost in a turn if no other has any: so much that the turn's own cost hardly counts. It is
+/// as much as two sends of the largest size, which is what a connection's input holds.
+const TURN: usize = 262_144;
 /// What they may cost together if several partners have any: so little that a neighbour doesn't wait long for the next.
 const SHARED_TURN: usize = 32_768;
 /// The messages that random bytes matter to.
@@ -53,7 +54,7 @@ impl EventLoop {
         let credit = self.partner_of(number).turns.credit(number);
         let mut spent = 0;
         while spent < share {
-            let cost = cost(self.next_length(number));
+            let cost = greatest_cost(self.next_message(number));
             if spent + cost > credit {
                 self.partner_of(number).turns.pass_on(number);
                 break;
@@ -72,10 +73,9 @@ impl EventLoop {
         spent
     }
 
-    /// The length of what a connection offers next: an open has none.
-    fn next_length(&self, number: usize) -> usize {
-        let message = self.connections[number].as_ref().and_then(|connection| connection.input.message());
-        message.map_or(0, <[u8]>::len)
+    /// What a connection offers next: an open is no message.
+    fn next_message(&self, number: usize) -> Option<&[u8]> {
+        self.connections[number].as_ref().and_then(|connection| connection.input.message())
     }
 
     /// Whether the next message of a connection can be offered in the same turn.
@@ -173,7 +173,8 @@ impl EventLoop {
             Consequence::Drop => {
                 self.partner_of(number).statistics.dropped += 1;
                 self.log_connection(number, "dropped", refusal);
-                let pause = PAUSE * self.next_length(number).div_ceil(PAUSE_BYTES).max(1) as u32;
+                let length = self.next_message(number).map_or(0, <[u8]>::len);
+                let pause = PAUSE * length.div_ceil(PAUSE_BYTES).max(1) as u32;
                 self.connections[number].iter_mut().for_each(Connection::take);
                 self.hold(number, Hold::Pause(self.now + pause));
             }
@@ -181,7 +182,8 @@ impl EventLoop {
         }
     }
 
-    /// A level changes only with the second. Until then the connection keeps its partner's turn.
+    /// A level changes only with the second, so it is tried again with each: three pay for any call. Until then the
+    /// connection keeps its partner's turn.
     fn wait_for_allowance(&mut self, number: usize, random: &[u8; RANDOM], refusal: Refusal) {
         let retry = self.now + self.relay.clock().until_next();
         let retry = *self.retry.get_or_insert(retry);

@@ -6,14 +6,16 @@ use codec::{encode, Message};
 use server::Limits;
 
 use crate::clocks::{Backward, Counted, Standing};
+use crate::costs::{LONGEST, SESSION};
 use crate::support::{assert_stops, Relay, Socket, LIMIT};
 
-/// Data that costs a whole second's refill.
-static DATA: [u8; 65_536 - 33] = [7; 65_536 - 33];
+/// Data that costs a whole second's refill: 32, and twice the message, which has a byte more.
+static DATA: [u8; 65_504 / 2 - 1] = [7; 65_504 / 2 - 1];
 
 /// The log's line of a wait of partner 0.
-fn waits(connection: usize, short: u32) -> String {
-    let used_up = format!("the partner's allowance is used up ({short} units short)");
+pub fn waits(connection: usize, short: u64) -> String {
+    let units = if short == 1 { "unit" } else { "units" };
+    let used_up = format!("the partner's allowance is used up ({short} {units} short)");
     format!("partner 0, connection {connection}: refused with 9, {used_up}: the message waits")
 }
 
@@ -31,11 +33,11 @@ impl Waiting {
         let relay = Relay::with_clock(clock.clone());
         let (mut caller, mut holder) = (relay.peer(0), relay.peer(0));
         caller.establish(&mut holder);
-        // Opens (32 each), answers (34), lease (34) and establish (37) have left room for three.
+        // The session has left room for three.
         for _ in 0..4 {
             caller.send(Message::DataSend { data: &DATA });
         }
-        relay.await_line(&waits(0, 203));
+        relay.await_line(&waits(0, SESSION));
         Self { clock, relay, caller, holder }
     }
 
@@ -111,12 +113,12 @@ fn an_open_that_waits_has_its_shortfall_in_the_log() {
     let clock = Standing::default();
     let relay = Relay::with_clock(clock.clone());
     let mut peer = relay.peer(0);
-    // What is left after the open and the version answer, in keepalives: 25 units are left, too few for an open.
-    let count = (262_144 - 32 - 34) / 33;
+    // What is left after the open and the version answer, in keepalives: 12 units are left, too few for an open.
+    let count = (262_144 - 45 - 34) / 33;
     (0..count).for_each(|_| peer.send(Message::Keepalive));
     relay.await_done(0, 2 + count);
     let mut late = relay.socket(0);
-    relay.await_line(&waits(1, 7));
+    relay.await_line(&waits(1, 33));
     assert_eq!(relay.server.statistics()[0].waited, 1);
     clock.advance(1);
     assert_eq!(late.receive(), encode(&Message::ProtocolVersion { major: 1, minor: 0 }));
@@ -127,7 +129,7 @@ fn an_open_does_not_wait_for_ever() {
     let open = Duration::from_millis(200);
     let relay = Relay::with_limits(Standing::default(), Limits { open, ..Limits::default() });
     let mut peer = relay.peer(0);
-    let count = (262_144 - 32 - 34) / 33;
+    let count = (262_144 - 45 - 34) / 33;
     (0..count).for_each(|_| peer.send(Message::Keepalive));
     relay.await_done(0, 2 + count);
     let mut late = relay.socket(0);
@@ -143,15 +145,14 @@ fn a_shortfall_has_the_refill_since_the_last_call() {
     let relay = Relay::with_clock(clock.clone());
     let (mut caller, mut holder) = (relay.peer(0), relay.peer(0));
     caller.establish(&mut holder);
-    // As above, and a fourth that leaves 25 units.
-    for data in [&DATA, &DATA, &DATA, &DATA[..65_308 - 33]] {
+    // As above, and a fourth, of 65,140, that leaves 26 units.
+    for data in [&DATA, &DATA, &DATA, &DATA[..65_108 / 2 - 1]] {
         caller.send(Message::DataSend { data });
         holder.receive().expect("what is sent");
     }
     clock.advance(1);
-    // The longest costs 65,566.
-    caller.send(Message::DataSend { data: &[7; 65_533] });
-    relay.await_line(&waits(0, 5));
+    caller.send(Message::DataSend { data: &LONGEST });
+    relay.await_line(&waits(0, 131_100 - 65_536 - 26));
 }
 
 #[test]
@@ -174,7 +175,7 @@ fn a_clock_that_goes_back_is_no_reason_to_refuse() {
 }
 
 /// A session of partner 0, whose holder takes what comes.
-fn session(relay: &Relay) -> (Socket, Socket) {
+pub fn session(relay: &Relay) -> (Socket, Socket) {
     let (mut caller, mut holder) = (relay.peer(0), relay.peer(0));
     caller.establish(&mut holder);
     (caller, holder)
@@ -196,14 +197,55 @@ fn a_partner_s_connections_share_a_refill_by_bytes() {
     relay.await_waits(0, 1);
     let first = [bytes_of(&mut large_end), bytes_of(&mut small_end)];
     let mut later = [0, 0];
-    for _ in 0..3 {
+    for _ in 0..6 {
         clock.advance(1);
         later[0] += bytes_of(&mut large_end);
         later[1] += bytes_of(&mut small_end);
     }
     // By messages the large ones would have sixty times as much.
-    assert!(first.iter().sum::<usize>() > 200_000, "{first:?}");
+    assert!(first.iter().sum::<usize>() > 100_000, "{first:?}");
     assert!(later.iter().all(|bytes| (60_000..140_000).contains(bytes)), "{later:?}");
+}
+
+/// A session that is refused costs 43, though a turn is given for the 140 of one that is established.
+#[test]
+fn requests_that_are_refused_take_no_more_than_their_share() {
+    let clock = Standing::default();
+    let relay = Relay::with_clock(clock.clone());
+    let ((mut caller, mut holder), mut asking) = (session(&relay), relay.peer(0));
+    (0..16).for_each(|_| caller.send(Message::DataSend { data: &DATA[..30_000] }));
+    (0..10_000).for_each(|_| asking.send(Message::EstablishRequest { id: 1 << 26 }));
+    relay.await_waits(0, 1);
+    for first in [&mut holder, &mut asking] {
+        bytes_of(first);
+    }
+    let [mut data, mut refused] = [0, 0];
+    for _ in 0..6 {
+        clock.advance(1);
+        data += 2 * bytes_of(&mut holder);
+        refused += bytes_of(&mut asking) / 6 * 43;
+    }
+    assert!(data > refused && refused > 60_000, "{data} units for data, {refused} for requests");
+}
+
+#[test]
+fn a_request_waits_for_one_message_of_each_other_connection_at_most() {
+    let clock = Standing::default();
+    let relay = Relay::with_clock(clock.clone());
+    let mut busy: Vec<_> = (0..3).flat_map(|_| <[Socket; 2]>::from(session(&relay))).collect();
+    let mut asking = relay.peer(0);
+    for peer in &mut busy {
+        (0..2).for_each(|_| peer.send(Message::DataSend { data: &LONGEST }));
+    }
+    relay.await_waits(0, 1);
+    asking.send(Message::LeaseRequest);
+    let mut seconds = 0;
+    while asking.is_quiet() {
+        clock.pass(1);
+        seconds += 1;
+    }
+    // Six messages are paid in twelve seconds, all of them in 24.
+    assert!((1..=13).contains(&seconds), "{seconds}");
 }
 
 #[test]

@@ -221,8 +221,8 @@ fn fill(clock: &Standing, relay: &Relay, caller: &mut Socket, frame: &[u8]) -> u
     while quiet < 30 {
         let before = (sent, accepted());
         sent += caller.stream.write(&frame[sent % frame.len()..]).unwrap_or(0);
-        // The relay has turns enough to accept a frame, and a second pays for it.
-        clock.pass(u64::from(quiet == 0));
+        // The relay has turns enough to accept a frame, and two seconds pay for it.
+        clock.pass(if quiet == 0 { 2 } else { 0 });
         quiet = if before == (sent, accepted()) { quiet + 1 } else { 0 };
         thread::sleep(Duration::from_millis(if quiet == 0 { 0 } else { 10 }));
     }
@@ -248,7 +248,7 @@ fn who_is_held_up_by_the_relay_is_not_judged() {
     for _ in 0..sent / frame.len() {
         assert!(told(&mut slow) == encode(&data), "other bytes");
         // What has waited is paid for now.
-        clock.advance(1);
+        clock.advance(2);
     }
     // The rest of the frame that was cut.
     caller.send_bytes(&frame[sent % frame.len()..]);

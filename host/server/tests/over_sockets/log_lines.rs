@@ -50,8 +50,8 @@ fn short(server: &Server) -> Socket {
     peer
 }
 
-/// An open (32), an answer (34) and 7,941 keepalives (33 each) leave 25 of 262,144.
-const SHORT_BY: u64 = 33 - 25;
+/// An open (45), an answer (34) and 7,941 keepalives (33 each) leave 12 of 262,144.
+const SHORT_BY: u64 = 33 - 12;
 
 #[test]
 fn a_wait_s_shortfall_is_in_the_text() {
@@ -75,7 +75,7 @@ fn a_wait_s_shortfall_is_a_number_in_json_and_other_lines_have_none() {
     assert!(connected.get("shortfall").is_none(), "{connected}");
     let waits = object(&await_line(&lines, "\"waits\""));
     assert!(waits["event"] == "waits" && waits["connection"] == 16 && waits["shortfall"] == SHORT_BY, "{waits}");
-    assert!(waits["text"].as_str().is_some_and(|text| text.contains("(8 units short)")), "{waits}");
+    assert!(waits["text"].as_str().is_some_and(|text| text.contains("(21 units short)")), "{waits}");
     // A message that is dropped, of another partner, is short of nothing.
     let mut other = Socket::over(TcpStream::connect(server.addresses()[3]).expect("the relay listens"));
     other.receive().expect("the version");

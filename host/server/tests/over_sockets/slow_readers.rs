@@ -261,11 +261,13 @@ fn who_is_told_more_than_it_reads_is_given_up() {
         if relay.has_line("partner 0, connection 0: closed, the peer has read next to nothing") {
             return;
         }
-        clock.advance(1);
+        let is_long = round < 12;
+        // Two seconds pay for a long one.
+        clock.advance(if is_long { 2 } else { 1 });
         let mut caller = relay.patient_peer(0);
         caller.send(Message::EstablishRequest { id });
         caller.receive();
-        if round < 12 {
+        if is_long {
             caller.send(Message::DataSend { data: &[7; 65_000] });
             thread::sleep(Duration::from_millis(20));
         }

@@ -17,7 +17,7 @@ use super::report::{cell, print_table, ratio, Aim, Bound};
 use super::round_trip::{self, Percentiles};
 use super::turns::{in_turn, median, Named};
 
-/// From one round trip to the next: so many fit into the partner's allowance.
+/// From one round trip to the next: so many, of 324 units each, fit into the partner's allowance.
 const PACE: Duration = Duration::from_millis(4);
 /// By then the others' allowances are used up.
 const FLOOD_LEAD: Duration = Duration::from_millis(300);

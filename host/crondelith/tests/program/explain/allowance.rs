@@ -2,12 +2,13 @@
 
 use std::fs;
 use std::io::Write;
+use std::path::Path;
 
 use serde_json::json;
 
 use super::{
-    assert_has, assert_lacks, await_saved, clock, end, explain, explain_message, explain_open, level, peer, relay,
-    told, with_allowance, Scene, Session, FIRST, KEEPALIVE, LONGEST, PARTNER, SECOND, THIRD,
+    assert_has, assert_lacks, await_saved, clock, end, establish, explain, explain_message, explain_open, level, peer,
+    relay, told, with_allowance, Scene, Session, FIRST, KEEPALIVE, LONGEST, PARTNER, SECOND,
 };
 use crate::support::text;
 
@@ -25,7 +26,7 @@ fn what_a_partner_has_is_that_of_the_tables() {
         assert_eq!(explain_message(&scene.state, SECOND, KEEPALIVE, options), expected);
     }
     // Another partner's is its own.
-    assert_has(&explain_open(&scene.state, 0), json!({ "partner": 0, "level": 262_144, "left": 262_112 }));
+    assert_has(&explain_open(&scene.state, 0), json!({ "partner": 0, "level": 262_144, "left": 262_099 }));
 }
 
 #[test]
@@ -35,14 +36,19 @@ fn what_is_missing_to_the_unit_and_when_it_can_be_paid() {
     let data = state.with_extension("data");
     fs::write(&data, [11; LONGEST]).expect("a message");
     let data = ["message", "--connection", &FIRST.to_string(), "--file", text(&data)];
-    let cost = 32 + LONGEST as i64;
+    let cost = 32 + 2 * LONGEST as i64;
     // A level, and after how many seconds the longest message can be paid, if not now.
-    for (level, seconds) in [(0, Some(2)), (29, Some(2)), (30, Some(1)), (cost - 1, Some(1)), (cost, None)] {
+    let cases = [(0, 3), (27, 3), (28, 2), (65_563, 2), (65_564, 1), (cost - 1, 1), (cost, 0)];
+    for (level, seconds) in cases {
         let object = explain(&with_allowance(state, level as u64, now), &data);
         let headroom = level - cost;
         assert_has(&object, json!({ "cost": cost, "level": level, "headroom": headroom }));
         match seconds {
-            Some(after) => {
+            0 => {
+                assert_has(&object, json!({ "check": 0, "left": 0 }));
+                assert_lacks(&object, &["shortfall", "payable_after", "payable_at"]);
+            }
+            after => {
                 let expected = json!({
                     "check": 9, "shortfall": -headroom, "payable_after": after, "payable_at": now + after,
                     "follows": "the message waits", "done": false,
@@ -50,16 +56,51 @@ fn what_is_missing_to_the_unit_and_when_it_can_be_paid() {
                 assert_has(&object, expected);
                 assert_lacks(&object, &["left", "request"]);
             }
-            None => {
-                assert_has(&object, json!({ "check": 0, "left": 0 }));
-                assert_lacks(&object, &["shortfall", "payable_after", "payable_at"]);
-            }
         }
     }
-    // A lease that can't be paid isn't decided.
-    let lease = explain_message(&with_allowance(state, 10, now), THIRD, "0200", &[]);
-    assert_has(&lease, json!({ "check": 9, "shortfall": 24, "headroom": -24, "payable_after": 1 }));
-    assert_lacks(&lease, &["request", "condition", "decision"]);
+}
+
+/// The cost is that of what would be decided, which isn't told.
+#[test]
+fn a_request_that_cannot_be_paid_is_not_decided() {
+    let Scene { state, id, .. } = &Scene::start("explain_undecided");
+    let now = clock(state);
+    // A request, what it costs, and less than that.
+    let cases = [
+        (FIRST, "0200".into(), 36, 10),
+        (SECOND, "0200".into(), 72, 50),
+        (FIRST, establish(*id), 43, 0),
+        (SECOND, establish(*id), 140, 43),
+        (SECOND, establish(*id), 140, 139),
+    ];
+    for (connection, request, cost, level) in cases {
+        let told = explain_message(&with_allowance(state, level, now), connection, &request, &[]);
+        let (cost, level) = (cost as i64, level as i64);
+        assert_has(&told, json!({ "check": 9, "cost": cost, "level": level, "headroom": level - cost }));
+        assert_has(&told, json!({ "shortfall": cost - level, "payable_after": 1, "follows": "the message waits" }));
+        assert_lacks(&told, &["request", "condition", "status", "decision", "left"]);
+        // With so much it is.
+        let told = explain_message(&with_allowance(state, cost as u64, now), connection, &request, &[]);
+        assert_has(&told, json!({ "check": 0, "cost": cost, "left": 0 }));
+        assert!(told["decision"].is_string(), "{told}");
+    }
+}
+
+/// When the lease in the partner's first row ends: the number that the row begins with.
+fn first_expiry(state: &Path) -> u64 {
+    let bytes = fs::read(state).expect("a state");
+    u64::from_be_bytes(*bytes[4_096 + PARTNER * 16 * 40..].first_chunk().expect("a row"))
+}
+
+/// While the time of update is to come there is no refill, and the lease ends before: then less is sent.
+#[test]
+fn a_request_can_come_to_cost_less_before_it_can_be_paid() {
+    let Scene { state, id, .. } = &Scene::start("explain_cheaper");
+    let (later, end) = (clock(state) + 10_000, first_expiry(state));
+    let told = explain_message(&with_allowance(state, 139, later), SECOND, &establish(*id), &[]);
+    assert_has(&told, json!({ "check": 9, "cost": 140, "shortfall": 1, "payable_at": end }));
+    let told = explain_message(&with_allowance(state, 42, later), SECOND, &establish(*id), &[]);
+    assert_has(&told, json!({ "check": 9, "cost": 140, "shortfall": 98, "payable_at": later + 1 }));
 }
 
 #[test]
@@ -69,17 +110,19 @@ fn allowances_from_anywhere() {
     let now = clock(&state);
     let open = |level, updated| explain_open(&with_allowance(&state, level, updated), FIRST);
     // Equal cost and level passes; a level is at most the capacity.
-    assert_has(&open(32, now), json!({ "check": 0, "headroom": 0, "left": 0 }));
-    assert_has(&open(31, now), json!({ "check": 9, "headroom": -1, "shortfall": 1 }));
-    assert_has(&open(u64::MAX, now), json!({ "check": 0, "level": 262_144 }));
+    assert_has(&open(45, now), json!({ "check": 0, "cost": 45, "headroom": 0, "left": 0 }));
+    assert_has(&open(44, now), json!({ "check": 9, "cost": 45, "headroom": -1, "shortfall": 1 }));
+    assert_has(&open(u64::MAX, now), json!({ "check": 0, "cost": 45, "level": 262_144 }));
+    assert_has(&open(0, now - 1), json!({ "check": 0, "cost": 45, "level": 65_536 }));
+    assert_has(&open(1, now - 4), json!({ "check": 0, "cost": 45, "level": 262_144 }));
     // There is no refill before a time of update that is to come.
-    assert_has(&open(0, now + 10), json!({ "check": 9, "shortfall": 32, "payable_after": 11, "payable_at": now + 11 }));
+    assert_has(&open(0, now + 10), json!({ "check": 9, "shortfall": 45, "payable_after": 11, "payable_at": now + 11 }));
     // The last second that the clock can have is one to pay in.
     let last = (1u64 << 40) - 1;
     assert_has(&open(0, last - 1), json!({ "check": 9, "payable_after": last - now, "payable_at": last }));
     for updated in [last, u64::MAX] {
         let never = open(0, updated);
-        assert_has(&never, json!({ "check": 9, "shortfall": 32 }));
+        assert_has(&never, json!({ "check": 9, "shortfall": 45 }));
         assert_lacks(&never, &["payable_after", "payable_at"]);
     }
 }
@@ -103,15 +146,15 @@ fn an_allowance_that_a_flood_has_used_up() {
     // They are more than the allowance pays for in three seconds.
     flood.stream().write_all(&[0, 2, 1, 13].repeat(15_000)).expect("the kernel takes it");
     let copy = state.with_extension("copy");
-    await_saved(|| fs::copy(&state, &copy).is_ok() && level(&copy, PARTNER, clock(&copy)) < 32);
+    await_saved(|| fs::copy(&state, &copy).is_ok() && level(&copy, PARTNER, clock(&copy)) < 33);
     let has = level(&copy, PARTNER, clock(&copy));
-    let expected = json!({ "check": 9, "level": has, "shortfall": 32 - has, "payable_after": 1 });
+    let expected = json!({ "check": 9, "level": has, "shortfall": 45 - has, "payable_after": 1 });
     assert_has(&explain_open(&copy, SECOND), expected);
     assert_has(&explain_message(&copy, FIRST, KEEPALIVE, &[]), json!({ "check": 9, "shortfall": 33 - has }));
     // A second later it is paid, as the relay then does.
     let later = (clock(&copy) + 1).to_string();
     let paid = explain(&copy, &["open", "--connection", &SECOND.to_string(), "--time", &later]);
-    assert_has(&paid, json!({ "check": 0, "left": has + 65_536 - 32 }));
+    assert_has(&paid, json!({ "check": 0, "left": has + 65_536 - 45 }));
     // The log of the relay has a shortfall, too.
     let lines = relay.program.await_line("the partner's allowance is used up (").expect("a line");
     let short = lines.rsplit("used up (").next().and_then(|rest| rest.split_once(" unit")).expect("a shortfall").0;

@@ -6,24 +6,35 @@ use serde_json::{json, Value};
 use server::{CONNECTIONS_EACH, PARTNERS};
 
 use super::{
-    assert_has, assert_lacks, clock, establish, explain, explain_message, told, Scene, FIRST, KEEPALIVE, SECOND, THIRD,
+    assert_has, assert_lacks, clock, establish, explain, explain_message, hex, told, Scene, FIRST, KEEPALIVE, SECOND,
+    THIRD,
 };
 
 /// Bytes of a connection's record.
 const CONNECTION_RECORD: usize = 64;
+
+/// An extension request as hex.
+fn extension(cookie: &[u8]) -> String {
+    "04".to_owned() + &hex(cookie)
+}
 
 #[test]
 fn messages_to_a_relay_that_runs() {
     let scene = Scene::start("explain_messages");
     let with_cookie = format!("0201{}", "77".repeat(24));
     let cases = [
-        (FIRST, "0200", json!({ "check": 0, "request": "lease", "condition": 1, "cost": 34 })),
-        (SECOND, "02 00", json!({ "check": 0, "request": "lease", "condition": 0, "cost": 34 })),
-        (SECOND, &with_cookie, json!({ "check": 0, "request": "lease", "condition": 0, "cost": 58 })),
-        (FIRST, &establish(scene.id), json!({ "check": 0, "request": "establish", "status": 5, "cost": 37 })),
-        (SECOND, &establish(scene.id), json!({ "check": 0, "request": "establish", "status": 0 })),
-        (SECOND, &establish(scene.id ^ 1), json!({ "check": 0, "request": "establish", "status": 1 })),
+        (FIRST, "0200", json!({ "check": 0, "request": "lease", "condition": 1, "cost": 36 })),
+        (SECOND, "02 00", json!({ "check": 0, "request": "lease", "condition": 0, "cost": 72 })),
+        (FIRST, &with_cookie, json!({ "check": 0, "request": "lease", "condition": 1, "cost": 60 })),
+        (SECOND, &with_cookie, json!({ "check": 0, "request": "lease", "condition": 0, "cost": 96 })),
+        (FIRST, &extension(&scene.cookie), json!({ "check": 0, "message_type": 4, "cost": 67 })),
+        (SECOND, &extension(&scene.cookie), json!({ "check": 0, "message_type": 4, "cost": 59 })),
+        (FIRST, &establish(scene.id), json!({ "check": 0, "request": "establish", "status": 5, "cost": 43 })),
+        (SECOND, &establish(scene.id), json!({ "check": 0, "request": "establish", "status": 0, "cost": 140 })),
+        (SECOND, &establish(scene.id ^ 1), json!({ "check": 0, "request": "establish", "status": 1, "cost": 43 })),
+        (SECOND, KEEPALIVE, json!({ "check": 0, "message_type": 13, "cost": 33 })),
         (THIRD, "01:01", json!({ "check": 0, "message_type": 1, "cost": 34 })),
+        (THIRD, "01:00", json!({ "check": 0, "message_type": 1, "cost": 34 })),
         (FIRST + 3, KEEPALIVE, json!({ "check": 4, "done": false })),
         (SECOND, "0202", json!({ "check": 6, "message_type": 2, "follows": "the connection is closed" })),
         (SECOND, "", json!({ "check": 6, "message_length": 0 })),
@@ -48,7 +59,7 @@ fn opens_and_closes_of_a_relay_that_runs() {
     let (first, fourth) = (&FIRST.to_string()[..], &(FIRST + 3).to_string()[..]);
     let cases: [(&[&str], Value); 6] = [
         (&["open", "--connection", first], json!({ "check": 4 })),
-        (&["open", "--connection", fourth], json!({ "check": 0, "free": false, "cost": 32 })),
+        (&["open", "--connection", fourth], json!({ "check": 0, "free": false, "cost": 45 })),
         (&["open", "--connection", fourth, "--reply-length", "63"], json!({ "check": 5 })),
         (&["close", "--connection", first], json!({ "check": 0, "free": true, "done": true })),
         (&["close", "--connection", fourth], json!({ "check": 4 })),

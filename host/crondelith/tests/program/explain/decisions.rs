@@ -34,8 +34,8 @@ fn the_random_bytes_of_a_lease_decide_as_the_relay_would() {
         // A request's cookie, the lease's own or any, changes no condition.
         for request in ["0200".to_owned(), "0201".to_owned() + &hex(&own), "0201".to_owned() + &"cd".repeat(24)] {
             let object = explain_message(&state, connection, &request, &["--random", &random(cookie, candidate)]);
-            let length = request.len() / 2;
-            assert_has(&object, json!({ "check": 0, "message_length": length, "cost": 32 + length }));
+            let (length, reply) = (request.len() / 2, if condition == 0 { 38 } else { 2 });
+            assert_has(&object, json!({ "check": 0, "message_length": length, "cost": 32 + length + reply }));
             assert_has(&object, json!({ "request": "lease", "condition": condition }));
         }
     }
@@ -57,7 +57,8 @@ fn a_cookie_of_zeros_is_explained_as_that_of_a_lease() {
             let options = ["--random", &random(cookie, candidate)];
             explain_message(&state, SECOND, &request, &options)
         };
-        assert_has(&explain(&own), json!({ "request": "lease", "condition": condition, "cost": 58 }));
+        let cost = if condition == 0 { 96 } else { 60 };
+        assert_has(&explain(&own), json!({ "request": "lease", "condition": condition, "cost": cost }));
         assert_eq!(explain(&[0; 24]), explain(&own));
     }
 }
@@ -105,7 +106,7 @@ fn a_session_that_runs() {
         assert_has(&explain_message(state, connection, &establish(*id), &[]), json!({ "check": 0, "status": status }));
     }
     let data = explain_message(state, FIRST, "0b 01 02", &[]);
-    assert_has(&data, json!({ "check": 0, "done": true, "free": false, "cost": 35 }));
+    assert_has(&data, json!({ "check": 0, "done": true, "free": false, "cost": 38 }));
     assert_lacks(&data, &["request", "condition", "status", "decision", "shortfall"]);
     let end = explain_message(state, SECOND, "09", &[]);
     assert_has(&end, json!({ "check": 0, "done": true, "free": true }));

@@ -27,8 +27,8 @@ fn an_explanation_in_words_and_as_json() {
         format!("Time:       {now} ({}), the file's clock", date(now)),
         "Answer:     9, it would be refused: the partner's allowance is used up".into(),
         "Meaning:    the call costs more than the partner has at that time".into(),
-        "Cost:       32 units".into(),
-        "Allowance:  the partner has 20 units, 12 too few".into(),
+        "Cost:       45 units".into(),
+        "Allowance:  the partner has 20 units, 25 too few".into(),
         format!(
             "Payable:    in 1 second, at {} ({}), if the partner makes no charged call meanwhile",
             now + 1,
@@ -40,7 +40,7 @@ fn an_explanation_in_words_and_as_json() {
         "call": "open", "connection": FIRST, "partner": PARTNER, "time": now, "clock": now, "check": 9, "done": false,
         "reason": "the partner's allowance is used up",
         "meaning": "the call costs more than the partner has at that time",
-        "free": false, "cost": 32, "level": 20, "headroom": -12, "shortfall": 12,
+        "free": false, "cost": 45, "level": 20, "headroom": -25, "shortfall": 25,
         "payable_at": now + 1, "payable_after": 1,
     });
     assert_eq!(explain(&copy, &call), object);
@@ -66,7 +66,7 @@ fn a_relay_that_has_ended_is_explained_and_nothing_is_changed() {
     let before = found();
     let now = clock(&state);
     let has = level(&state, PARTNER, now);
-    assert_has(&explain_open(&state, FIRST), json!({ "check": 0, "time": now, "level": has, "headroom": has - 32 }));
+    assert_has(&explain_open(&state, FIRST), json!({ "check": 0, "time": now, "level": has, "headroom": has - 45 }));
     for message in ["0200", KEEPALIVE, "09", ""] {
         assert_eq!(explain_message(&state, FIRST, message, &[])["check"], 4);
     }
