@@ -56,10 +56,10 @@ pub fn decide(
     m: &[u8],
     random: &[u8],
 ) -> Decision
-    requires { ⌜ (length (now leases) ≡ leasesSize) × (c < connectionCount) × (length (now random) ≡ randomBytes) ⌝ }
-    ensures { λ r. ⌜ ((needsSession (typeOf (now (m .entry))) ≡ true → other ≡ peer (now (connections .entry)) c)
-        → meaning r (now (m .entry)) (now (random .entry))
-        ≡ decideMessage (now (connections .entry)) (now (leases .entry)) time c (now (random .entry)) (decode (now (m .entry)))) ⌝ }
+    requires { ⌜ (length (now leases) ≡ leasesSize) × (c < connectionCount) × (length (now random) ≡ randomBytes)
+        × (needsSession (typeOf (now m)) ≡ true → other ≡ peer (now connections) c) ⌝ }
+    ensures { λ r. ⌜ meaning r (now (m .entry)) (now (random .entry))
+        ≡ decideMessage (now (connections .entry)) (now (leases .entry)) time c (now (random .entry)) (decode (now (m .entry))) ⌝ }
 {
     let d = svsc_reader::read(m);
     match d {

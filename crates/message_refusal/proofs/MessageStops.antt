@@ -168,7 +168,7 @@ module _
       eight-passed = sym number-is ∙ z
 
       -- for a type that needs a session
-      pub peer-found : needsSession (typeOf m) ≡ true → r .peer ≡ peer (tables .connections) c
+      peer-found : needsSession (typeOf m) ≡ true → r .peer ≡ peer (tables .connections) c
       unfolding foundByEight found
       peer-found t = ap (λ (r : Found). r .peer) e ∙ rw (eq-eqb (precheck tables call) 0 eight-passed, t)
 
@@ -199,13 +199,14 @@ module _
           let paid = price-known d n hd hn in
           rw (eq-eqb (precheck tables call) 0 eight-passed, hk ∙ last-check n paid, paid, hd)
 
-pub record EightPassed (tables : Tables) (c : ℕ) (m random : List ℕ) : Type 0 where
+pub record EightPassed (tables : Tables) (c : ℕ) (m random : List ℕ) (other : ℕ) : Type 0 where
   pub known : c < connectionCount
   pub leases : length (tables .leases) ≡ leasesSize
   pub allowances : length (tables .allowances) ≡ allowancesSize
   pub random-size : length random ≡ randomBytes
   pub some : 1 ≤ length m
   pub short : length m ≤ longestMessage
+  pub paired : needsSession (typeOf m) ≡ true → other ≡ peer (tables .connections) c
 
 -- what they show of buffers of any content
 module _
@@ -213,22 +214,24 @@ module _
     (e : (reply relay : List ℕ) → length reply ≡ n → length relay ≡ l → r ≡ foundByEight tables time c m random reply relay)
     (z : r .number ≡ 0)
   where
-    shown-passed : precheck tables (message time c m random (replicate n 0) (replicate l 0)) ≡ 0
-    shown-passed =
-        eight-passed tables time c m random (replicate n 0) (replicate l 0) r
-        (e (replicate n 0) (replicate l 0) (length-replicate n 0) (length-replicate l 0)) z
+    any-found : r ≡ foundByEight tables time c m random (replicate n 0) (replicate l 0)
+    any-found = e (replicate n 0) (replicate l 0) (length-replicate n 0) (length-replicate l 0)
 
-    pub eight-known : EightPassed tables c m random
+    shown-passed : precheck tables (message time c m random (replicate n 0) (replicate l 0)) ≡ 0
+    shown-passed = eight-passed tables time c m random (replicate n 0) (replicate l 0) r any-found z
+
+    pub eight-known : EightPassed tables c m random (r .peer)
     eight-known =
         let ok = shown tables _ shown-passed in
-        let peer = from-peer tables time c m random _ _ shown-passed in
+        let sent = from-peer tables time c m random _ _ shown-passed in
         record {
           known = ok .known;
           leases = ok .leases;
           allowances = ok .allowances;
           random-size = random-length tables time c m random _ _ shown-passed;
-          some = peer-some m peer;
-          short = peer-length m peer;
+          some = peer-some m sent;
+          short = peer-length m sent;
+          paired = peer-found tables time c m random (replicate n 0) (replicate l 0) r any-found z;
         }
 
 -- ---- the three parts of what is handed on

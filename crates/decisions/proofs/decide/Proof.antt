@@ -48,13 +48,13 @@ enum-told-3 c = search needs
 
 returns : tie.Need-returns
 unfolding decideMessage
-returns c found =
+returns c =
     let s = c .before .before .before in
     let a = s .before .before .before .before .before .args in
     arm-decides (a .connections .now) (a .leases .now) (a .time) (a .c) (a .random .now) (a .m .now) _ (s .read .ensures) _ _ (c .before .d .given .1) refl
 
 returns-2 : tie.Need-returns-2
-returns-2 c found =
+returns-2 c =
     let s = c .before .before .before in
     let a = s .before .before .before .before .before .args in
     lease-decides (a .connections .now) (a .leases .now) (a .time) (a .c) (a .random .now) (a .m .now) (s .read .result) (s .read .ensures) (c .before .before .match .keys2) _
@@ -62,7 +62,7 @@ returns-2 c found =
 
 returns-3 : tie.Need-returns-3
 unfolding decideMessage
-returns-3 c found =
+returns-3 c =
     let s = c .before .before .before .before in
     let a = s .before .before .before .before .before .args in
     arm-decides (a .connections .now) (a .leases .now) (a .time) (a .c) (a .random .now) (a .m .now) _ (s .read .ensures) _ _ (c .before .before .enum-told .given .1)
@@ -70,26 +70,28 @@ returns-3 c found =
 
 returns-4 : tie.Need-returns-4
 unfolding decideMessage
-returns-4 c found =
+returns-4 c =
     let s = c .before .before .before .before in
     let a = s .before .before .before .before .before .args in
     arm-decides (a .connections .now) (a .leases .now) (a .time) (a .c) (a .random .now) (a .m .now) _ (s .read .ensures) _ _ (c .before .before .d2 .given .1)
     (rw (c .decide .ensures))
 
 returns-5 : tie.Need-returns-5
-returns-5 c found =
+returns-5 c =
     let s = c .before .before in
-    let a = s .before .before .before .before .before .args in
-    end-decides (a .connections .now) (a .leases .now) (a .time) (a .c) (a .random .now) (a .m .now) _ (s .read .ensures) (a .other) found (c .enum-told2 .given .1)
+    let entry = s .before .before .before .before .before in
+    let a = entry .args in
+    end-decides (a .connections .now) (a .leases .now) (a .time) (a .c) (a .random .now) (a .m .now) _ (s .read .ensures) (a .other) (entry .pre .3) (c .enum-told2 .given .1)
 
 returns-6 : tie.Need-returns-6
-returns-6 c found =
+returns-6 c =
     let s = c .before .before in
-    let a = s .before .before .before .before .before .args in
-    send-decides (a .connections .now) (a .leases .now) (a .time) (a .c) (a .random .now) (a .m .now) _ (s .read .ensures) (a .other) found (c .enum-told3 .given .1)
+    let entry = s .before .before .before .before .before in
+    let a = entry .args in
+    send-decides (a .connections .now) (a .leases .now) (a .time) (a .c) (a .random .now) (a .m .now) _ (s .read .ensures) (a .other) (entry .pre .3) (c .enum-told3 .given .1)
 
 returns-7 : tie.Need-returns-7
-returns-7 c found =
+returns-7 c =
     let s = c .before in
     let a = s .before .before .before .before .before .args in
     rest-decides (a .connections .now) (a .leases .now) (a .time) (a .c) (a .random .now) (a .m .now) (s .read .result) (s .read .ensures) (c .match .keys7)

@@ -1,7 +1,7 @@
 -- `assess`: stopped by one of checks 1 to 8, or decided, priced and compared with the level.
 use native.Mathlib.Omega.{arith}
 use Rattle.rules.specs.Tables.{lent}
-use Rattle.message_refusal.proofs.MessageStops.{eight-known, eight-stop, peer-found, all-assessed}
+use Rattle.message_refusal.proofs.MessageStops.{eight-known, eight-stop, all-assessed}
 use borrow.Author.Needs.{needs}
 use Rattle.message_refusal.proofs.assess.Statement.{statement}
 use Rattle.message_refusal.proofs.assess.Tie as tie
@@ -38,7 +38,7 @@ decide-requires c κs =
     let s = c .before .before in
     let a = s .before .before .before .before .before .before .args in
     let ok = eight-known (lent (a .connections .now) (a .leases .now) (a .allowances .now)) (a .time) (a .connection) (a .m .now) (a .random .now) (a .reply-length) (a .relay-length) _ (s .first-eight .ensures) (c .if1 .left) in
-    (ok .leases, ok .known, ok .random-size)
+    (ok .leases, ok .known, ok .random-size, ok .paired)
 
 price-requires : tie.Need-price-requires
 price-requires c κs =
@@ -62,7 +62,7 @@ returns-2 c reply relay n l =
     let e = s .first-eight .ensures reply relay n l in
     let z = c .before .before .before .if1 .left in
     all-assessed tables (a .time) (a .connection) (a .m .now) (a .random .now) reply relay _ e z _ _ _
-    (c .before .before .decide .ensures (peer-found tables (a .time) (a .connection) (a .m .now) (a .random .now) reply relay _ e z))
+    (c .before .before .decide .ensures)
     (c .before .price .ensures (a .random .now))
     (c .last .ensures)
 
