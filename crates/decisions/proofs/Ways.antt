@@ -26,13 +26,14 @@ use Rattle.rules.specs.Decisions.{leaseDecided, sessionEnded, dataSent, nothing
 use Rattle.rules.specs.Decisions as rules
 use Rattle.rules.specs.Checks.{needsSession}
 use Rattle.rules.specs.Prices.{sentBytes}
-use Rattle.rules.proofs.Messages.{decode-type, no-cookie}
+use Rattle.rules.proofs.Messages.{no-cookie}
+use Rattle.rules.proofs.Plans.{by-test}
 use Rattle.checks.proofs.MessageChecks.{ends}
 use Rattle.leases.specs.Leases as leases
 use Rattle.statuses.specs.declared.EstablishDecision.the-variants as status
 use Rattle.decisions.specs.declared.Decision.{Decision}
 use Rattle.decisions.specs.declared.Decision.the-variants as decision
-use Rattle.decisions.specs.Decided.{meaning as decided, priceOf}
+use Rattle.decisions.specs.Decided.{meaning as decided, naming, priceOf}
 
 -- ---- what is decided
 
@@ -44,8 +45,12 @@ quiet = 0 ∷ 4 ∷ 5 ∷ 7 ∷ 8 ∷ 10 ∷ 11 ∷ 12 ∷ 14 ∷ 16 ∷ 17 ∷ 
 abbrev pub requests : List ℕ
 requests = 2 ∷ 3 ∷ []
 
-module _ (cs ls : List ℕ) (time c : ℕ) (random m : List ℕ) where
-  asks-nothing : (d : Decoded) → OneOf quiet (tagOf the-type d) → nothingAsked ≡ decideMessage cs ls time c random (meaning d m .message)
+module _ (cs ls : List ℕ) (time c other : ℕ) (random m : List ℕ) where
+  -- what the rules decide of it, naming this other connection
+  abbrev asked : Option Message → rules.Decision
+  asked o = naming other (decideMessage cs ls time c random o)
+
+  asks-nothing : (d : Decoded) → OneOf quiet (tagOf the-type d) → nothingAsked ≡ asked (meaning d m .message)
   unfolding decideMessage
   asks-nothing (case.Version major minor) h = refl
   asks-nothing (case.VersionAnswer ok) h = absurd (miss quiet 1 tt h)
@@ -68,7 +73,7 @@ module _ (cs ls : List ℕ) (time c : ℕ) (random m : List ℕ) where
   asks-nothing case.Malformed h = refl
 
   asks-lease : (d : Decoded) → meaning d m ≡ answer (decode m) → OneOf requests (tagOf the-type d)
-      → leaseDecided (decideLease cs ls time c random (part m 2 24)) ≡ decideMessage cs ls time c random (meaning d m .message)
+      → leaseDecided (decideLease cs ls time c random (part m 2 24)) ≡ asked (meaning d m .message)
   unfolding decideMessage
   asks-lease (case.Version major minor) h o = absurd (miss requests 0 tt o)
   asks-lease (case.VersionAnswer ok) h o = absurd (miss requests 1 tt o)
@@ -92,36 +97,18 @@ module _ (cs ls : List ℕ) (time c : ℕ) (random m : List ℕ) where
 
   module _ (d : Decoded) (h : meaning d m ≡ answer (decode m)) where
     -- in the arm of the case e
-    pub arm-decides : (e : Decoded) (x : rules.Decision) → d ≡ e → x ≡ decideMessage cs ls time c random (meaning e m .message)
-        → x ≡ decideMessage cs ls time c random (decode m)
-    arm-decides e x told made = in-arm (λ (o : Option Message). decideMessage cs ls time c random o) d m h e x told made
+    pub arm-decides : (e : Decoded) (x : rules.Decision) → d ≡ e → x ≡ asked (meaning e m .message)
+        → x ≡ asked (decode m)
+    arm-decides e x told made = in-arm asked d m h e x told made
 
-    pub rest-decides : OneOf quiet (tagOf the-type d) → nothingAsked ≡ decideMessage cs ls time c random (decode m)
-    rest-decides rest = in-rest (λ (o : Option Message). decideMessage cs ls time c random o) d m h nothingAsked (asks-nothing d rest)
+    pub rest-decides : OneOf quiet (tagOf the-type d) → nothingAsked ≡ asked (decode m)
+    rest-decides rest = in-rest asked d m h nothingAsked (asks-nothing d rest)
 
     pub lease-decides : OneOf requests (tagOf the-type d) → (x : LeaseDecision) → x ≡ decideLease cs ls time c random (part m 2 24)
-        → leaseDecided x ≡ decideMessage cs ls time c random (decode m)
+        → leaseDecided x ≡ asked (decode m)
     lease-decides either x e =
-        in-rest (λ (o : Option Message). decideMessage cs ls time c random o) d m h (leaseDecided x)
+        in-rest asked d m h (leaseDecided x)
         (ap leaseDecided e ∙ asks-lease d h either)
-
-    -- the type of what was read
-    read-as : (x : Message) → meaning d m .message ≡ some x → typeOf m ≡ typeOf (encode x)
-    read-as x e = decode-type m x (sym (ap (λ (a : Answer). a .message) h) ∙ e)
-
-    -- the other connection, for a type that needs one
-    module _ (other : ℕ) (found : needsSession (typeOf m) ≡ true → other ≡ peer cs c) where
-      pub end-decides : d ≡ case.SessionEnd → sessionEnded other ≡ decideMessage cs ls time c random (decode m)
-      unfolding decideMessage encode
-      end-decides told =
-          let t = read-as SessionEnd (ap (λ (x : Decoded). meaning x m .message) told) in
-          arm-decides case.SessionEnd _ told (rw (found (rw t)))
-
-      pub send-decides : d ≡ case.DataSend → dataSent other (drop 1 m) ≡ decideMessage cs ls time c random (decode m)
-      unfolding decideMessage encode
-      send-decides told =
-          let t = read-as (DataSend (drop 1 m)) (ap (λ (x : Decoded). meaning x m .message) told) in
-          arm-decides case.DataSend _ told (rw (found (rw t)))
 
 -- ---- what is sent
 
@@ -136,16 +123,12 @@ module _ (c : ℕ) {p row end : ℕ} (hp : p ≡ partnerOf c) (he : end ≡ endR
   pub extended-past : end ≤ row → ltb row (endRow (partnerOf c)) ≡ false
   extended-past h = le-ltb row (endRow (partnerOf c)) (rw (← hp, ← he) h)
 
-one-of : (t : Bool) {a b : ℕ} → a ≤ longestMessage → b ≤ longestMessage → (if t then a else b) ≤ longestMessage
-one-of true l u = l
-one-of false l u = u
-
 -- at most as much as came, or as the longest message is
 pub sent-most : (c : ℕ) (m random : List ℕ) (d : Decision) → 1 ≤ length m → length m ≤ longestMessage
     → sentBytes c (decided d m random) ≤ longestMessage
 sent-most c m random (decision.AnswerVersion ok) h l = lit≤ tt
-sent-most c m random (decision.Lease d) h l = one-of (isAccepted (leases.meaning d random)) (lit≤ tt) (lit≤ tt)
-sent-most c m random (decision.Extend row) h l = one-of (ltb row (endRow (partnerOf c))) (lit≤ tt) (lit≤ tt)
+sent-most c m random (decision.Lease d) h l = by-test (λ n. n ≤ longestMessage) (isAccepted (leases.meaning d random)) (λ _. lit≤ tt) (λ _. lit≤ tt)
+sent-most c m random (decision.Extend row) h l = by-test (λ n. n ≤ longestMessage) (ltb row (endRow (partnerOf c))) (λ _. lit≤ tt) (λ _. lit≤ tt)
 sent-most c m random (decision.Establish id (status.RefusedWith n)) h l = lit≤ tt
 sent-most c m random (decision.Establish id (status.EstablishedWith n)) h l = lit≤ tt
 sent-most c m random (decision.EndSession other) h l = lit≤ tt

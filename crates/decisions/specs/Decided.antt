@@ -23,6 +23,17 @@ meaning (case.EndSession other) m random = rules.sessionEnded other
 meaning (case.SendData other) m random = rules.dataSent other (drop 1 m)
 meaning case.Nothing m random = rules.nothingAsked
 
+-- The same decision, naming this other connection. 02, Item 4: "a send looks its session up once": whoever decides is handed what that found, and
+-- names no other, whatever the caller's record says.
+abbrev pub naming : ℕ → rules.Decision → rules.Decision
+naming other (rules.versionAnswered ok) = rules.versionAnswered ok
+naming other (rules.leaseDecided d) = rules.leaseDecided d
+naming other (rules.extensionDecided row) = rules.extensionDecided row
+naming other (rules.sessionDecided id d) = rules.sessionDecided id d
+naming other (rules.sessionEnded d) = rules.sessionEnded other
+naming other (rules.dataSent d bytes) = rules.dataSent other bytes
+naming other rules.nothingAsked = rules.nothingAsked
+
 -- SessionEnd stays free
 abbrev pub priceOf : ℕ → List ℕ → rules.Decision → ℕ
 priceOf c m d = if eqb (typeOf m) 9 then 0 else callCost + length m + sentBytes c d

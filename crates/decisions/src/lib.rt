@@ -2,21 +2,18 @@
 // nothing again.
 // Sizes and numbers in range are what the checks have shown, and no answer would serve where they fail.
 ghost use mathlib.Core.Path.{_≡_};
-ghost use mathlib.Core.Bool.{true};
 ghost use mathlib.Core.List.{List};
 ghost use Prim.Native.Nat.{ℕ, _≤_, _<_};
 ghost use lib.ListN.{length};
 ghost use Rattle.octets.specs.Octets.{if_then_else_};
-ghost use Rattle.svsc.specs.Messages.{longestMessage, typeOf, decode};
+ghost use Rattle.svsc.specs.Messages.{longestMessage, decode};
 ghost use Rattle.rules.specs.Sizes.{connectionCount, leasesSize, randomBytes};
-ghost use Rattle.rules.specs.Tables.{peer};
 ghost use Rattle.rules.specs.Effects.{isAccepted};
 ghost use Rattle.rules.specs.Decisions.{decideMessage, extensionDecided, sessionDecided};
-ghost use Rattle.rules.specs.Checks.{needsSession};
 ghost use Rattle.rules.specs.Prices.{sentBytes};
 ghost use Rattle.leases.specs.Leases.{meaning as leaseMeaning};
 ghost use Rattle.statuses.specs.Decisions.{decidedAs};
-ghost use Rattle.decisions.specs.Decided.{meaning, priceOf};
+ghost use Rattle.decisions.specs.Decided.{meaning, naming, priceOf};
 use leases::LeaseDecision;
 use statuses::EstablishDecision;
 use svsc_decoded::Decoded;
@@ -46,7 +43,8 @@ const SESSION: u64 = 103; // to the caller 54, and to the holder 49
 
 const SESSION_END: u64 = 1;
 
-// What a message does. `other` is the connection that check 8 found in session with the caller, for a type that needs one.
+// What a message does. `other` is the connection that check 8 found in session with the caller, for a type that needs one: it is named, and
+// not looked up again.
 pub fn decide(
     connections: &[u8],
     leases: &[u8],
@@ -56,10 +54,9 @@ pub fn decide(
     m: &[u8],
     random: &[u8],
 ) -> Decision
-    requires { ⌜ (length (now leases) ≡ leasesSize) × (c < connectionCount) × (length (now random) ≡ randomBytes)
-        × (needsSession (typeOf (now m)) ≡ true → other ≡ peer (now connections) c) ⌝ }
+    requires { ⌜ (length (now leases) ≡ leasesSize) × (c < connectionCount) × (length (now random) ≡ randomBytes) ⌝ }
     ensures { λ r. ⌜ meaning r (now (m .entry)) (now (random .entry))
-        ≡ decideMessage (now (connections .entry)) (now (leases .entry)) time c (now (random .entry)) (decode (now (m .entry))) ⌝ }
+        ≡ naming other (decideMessage (now (connections .entry)) (now (leases .entry)) time c (now (random .entry)) (decode (now (m .entry)))) ⌝ }
 {
     let d = svsc_reader::read(m);
     match d {

@@ -11,7 +11,7 @@ use lib.ListN.{length, replicate, length-replicate}
 use borrow.Author.Tests.{eq-eqb, ne-eqb}
 use Rattle.octets.specs.Octets.{if_then_else_, byteAt}
 use Rattle.svsc.specs.Messages.{typeOf, decode, fromPeer}
-use Rattle.rules.specs.Sizes.{connectionCount, allowancesSize}
+use Rattle.rules.specs.Sizes.{connectionCount, allowancesSize, greatestPrice}
 use Rattle.rules.specs.Tables.{Tables}
 use Rattle.rules.specs.Decisions.{Decision, decideMessage}
 use Rattle.rules.specs.Calls.{Call, message}
@@ -117,7 +117,7 @@ module _
 pub record Known (tables : Tables) (c : ℕ) (f : Assessment) : Type 0 where
   pub connection : c < connectionCount
   pub allowances : length (tables .allowances) ≡ allowancesSize
-  pub price-most : f .price ≤ 131100
+  pub price-most : f .price ≤ greatestPrice
 
 pub message-passed : (tables : Tables) (time c : ℕ) (m random : List ℕ) (n l : ℕ) (f : Assessment)
     → ((reply relay : List ℕ) → length reply ≡ n → length relay ≡ l → assessedAs f m random ≡ assessed tables time c m random reply relay)

@@ -5,7 +5,7 @@ ghost use Prim.Native.Nat.{ℕ, _≤_, _<_};
 ghost use lib.ListN.{length};
 ghost use Rattle.rules.specs.Tables.{lent};
 ghost use Rattle.rules.specs.Calls.{message};
-ghost use Rattle.rules.specs.Sizes.{connectionCount, allowancesSize};
+ghost use Rattle.rules.specs.Sizes.{connectionCount, allowancesSize, greatestPrice};
 ghost use Rattle.rules.specs.Checks.{precheck};
 ghost use Rattle.rules.specs.Reasons.{explain};
 ghost use Rattle.reasons.specs.Coded.{coded};
@@ -16,21 +16,21 @@ use reasons::Reason;
 mod naming; // what decided a message
 
 // The reason of a message that has passed checks 1 to 8, by what they hand on.
-fn judged(allowances: &[u8], time: u64, c: u8, m: &[u8], found: Assessment) -> Reason
-    requires { ⌜ (length (now allowances) ≡ allowancesSize) × (c < connectionCount) × (found .price ≤ 131100) ⌝ }
+fn judged(allowances: &[u8], time: u64, c: u8, m: &[u8], assessment: Assessment) -> Reason
+    requires { ⌜ (length (now allowances) ≡ allowancesSize) × (c < connectionCount) × (assessment .price ≤ greatestPrice) ⌝ }
     ensures { λ r. ⌜ ((cs ls random reply relay : List ℕ)
-        → assessedAs found (now (m .entry)) random
+        → assessedAs assessment (now (m .entry)) random
         ≡ assessed (lent cs ls (now (allowances .entry))) time c (now (m .entry)) random reply relay
         → precheck (lent cs ls (now (allowances .entry))) (message time c (now (m .entry)) random reply relay) ≡ 0
         → r ≡ coded (explain (lent cs ls (now (allowances .entry))) (message time c (now (m .entry)) random reply relay))) ⌝ }
 {
-    let decision = found.decision;
-    let named = naming::decided(found.number, decision);
+    let decision = assessment.decision;
+    let named = naming::decided(assessment.number, decision);
     if octets::byte(m, 0) == 9 {
-        return reasons::without_headroom(found.number, named);
+        return reasons::without_headroom(assessment.number, named);
     }
     let level = allowance_table::level(allowances, lease_table::partner_of(c), time);
-    reasons::with_headroom(found.number, named, level, found.price)
+    reasons::with_headroom(assessment.number, named, level, assessment.price)
 }
 
 #[no_mangle]
@@ -49,7 +49,7 @@ pub extern "C" fn crondelith_explain_message(
         → r ≡ coded (explain (lent (now (connections .entry)) (now (leases .entry)) (now (allowances .entry)))
         (message time connection (now (m .entry)) (now (random .entry)) reply relay))) ⌝ }
 {
-    let found = message_refusal::assess(
+    let assessment = message_refusal::assess(
         connections,
         leases,
         allowances,
@@ -60,8 +60,8 @@ pub extern "C" fn crondelith_explain_message(
         reply_length as usize,
         relay_length as usize,
     );
-    if reasons::is_stopped(found.number) {
-        return reasons::without_headroom(found.number, reasons::nothing_named());
+    if reasons::is_stopped(assessment.number) {
+        return reasons::without_headroom(assessment.number, reasons::nothing_named());
     }
-    judged(allowances, time, connection as u8, m, found)
+    judged(allowances, time, connection as u8, m, assessment)
 }

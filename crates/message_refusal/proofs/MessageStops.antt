@@ -17,11 +17,12 @@ use Rattle.rules.specs.Calls.{Call, message}
 use Rattle.rules.specs.Charges.{price, callerLevel}
 use Rattle.rules.specs.Checks.{wrongSize, wrongTime, unknownConnection, wrongState, wrongLengths, notFromPeer, permits, notPermitted, needsSession, noSession, aboveLevel, pastLimit, firstEight, checks, firstApplying, precheck, check}
 use Rattle.rules.proofs.Checks.{passed as shown, from-peer, random-length}
+use Rattle.rules.proofs.Plans.{every-decision}
 use Rattle.rules.proofs.Prices.{message-price, prices}
 use Rattle.checks.proofs.MessageChecks.{type-known, peer-some, peer-length}
 use Rattle.refusals.specs.Passed.{firstThree}
 use Rattle.refusals.proofs.Stops.{stopped, passed, first-passed, others-passed}
-use Rattle.decisions.specs.Decided.{meaning, priceOf}
+use Rattle.decisions.specs.Decided.{meaning, naming, priceOf}
 use Rattle.message_refusal.specs.declared.Found.{Found}
 use Rattle.message_refusal.specs.declared.Assessment.{Assessment}
 use Rattle.message_refusal.specs.Own.{foundOf, ownChecks, sessionCheck, found, foundByEight}
@@ -167,10 +168,24 @@ module _
       eight-passed : precheck tables call ≡ 0
       eight-passed = sym number-is ∙ z
 
-      -- for a type that needs a session
       peer-found : needsSession (typeOf m) ≡ true → r .peer ≡ peer (tables .connections) c
       unfolding foundByEight found
       peer-found t = ap (λ (r : Found). r .peer) e ∙ rw (eq-eqb (precheck tables call) 0 eight-passed, t)
+
+      -- what was found is what the caller's record names
+      named : naming (r .peer) (decideMessage (tables .connections) (tables .leases) time c random (decode m))
+          ≡ decideMessage (tables .connections) (tables .leases) time c random (decode m)
+      named =
+          every-decision (λ d. naming (r .peer) d ≡ d) tables time c m random reply relay eight-passed
+          (record {
+            version-answered = λ t ok. refl;
+            lease-decided = λ t cookie. refl;
+            extension-decided = λ t cookie. refl;
+            session-decided = λ t id o. refl;
+            session-ended = λ t s. rw (peer-found (rw t));
+            data-sent = λ t s bytes l. rw (peer-found (rw t));
+            nothing-asked = refl;
+          })
 
       price-known : (d : Decision) (n : ℕ) → d ≡ decideMessage (tables .connections) (tables .leases) time c random (decode m) → n ≡ priceOf c m d
           → n ≡ price tables call
@@ -191,22 +206,21 @@ module _
           by false = refl
 
       -- none stops it: the decision, its price, and check 9
-      pub all-assessed : (d : Decision) (n k : ℕ) → d ≡ decideMessage (tables .connections) (tables .leases) time c random (decode m)
+      pub all-assessed : (d : Decision) (n k : ℕ) → d ≡ naming (r .peer) (decideMessage (tables .connections) (tables .leases) time c random (decode m))
           → n ≡ priceOf c m d → k ≡ (if ltb (levelNow (bucketOf (tables .allowances) (partnerOf c)) time) n then 9 else 0)
           → assessedOf k n d ≡ assessed tables time c m random reply relay
       unfolding assessed callerLevel
       all-assessed d n k hd hn hk =
-          let paid = price-known d n hd hn in
-          rw (eq-eqb (precheck tables call) 0 eight-passed, hk ∙ last-check n paid, paid, hd)
+          let paid = price-known d n (hd ∙ named) hn in
+          rw (eq-eqb (precheck tables call) 0 eight-passed, hk ∙ last-check n paid, paid, hd ∙ named)
 
-pub record EightPassed (tables : Tables) (c : ℕ) (m random : List ℕ) (other : ℕ) : Type 0 where
+pub record EightPassed (tables : Tables) (c : ℕ) (m random : List ℕ) : Type 0 where
   pub known : c < connectionCount
   pub leases : length (tables .leases) ≡ leasesSize
   pub allowances : length (tables .allowances) ≡ allowancesSize
   pub random-size : length random ≡ randomBytes
   pub some : 1 ≤ length m
   pub short : length m ≤ longestMessage
-  pub paired : needsSession (typeOf m) ≡ true → other ≡ peer (tables .connections) c
 
 -- what they show of buffers of any content
 module _
@@ -214,13 +228,12 @@ module _
     (e : (reply relay : List ℕ) → length reply ≡ n → length relay ≡ l → r ≡ foundByEight tables time c m random reply relay)
     (z : r .number ≡ 0)
   where
-    any-found : r ≡ foundByEight tables time c m random (replicate n 0) (replicate l 0)
-    any-found = e (replicate n 0) (replicate l 0) (length-replicate n 0) (length-replicate l 0)
-
     shown-passed : precheck tables (message time c m random (replicate n 0) (replicate l 0)) ≡ 0
-    shown-passed = eight-passed tables time c m random (replicate n 0) (replicate l 0) r any-found z
+    shown-passed =
+        eight-passed tables time c m random (replicate n 0) (replicate l 0) r
+        (e (replicate n 0) (replicate l 0) (length-replicate n 0) (length-replicate l 0)) z
 
-    pub eight-known : EightPassed tables c m random (r .peer)
+    pub eight-known : EightPassed tables c m random
     eight-known =
         let ok = shown tables _ shown-passed in
         let sent = from-peer tables time c m random _ _ shown-passed in
@@ -231,7 +244,6 @@ module _
           random-size = random-length tables time c m random _ _ shown-passed;
           some = peer-some m sent;
           short = peer-length m sent;
-          paired = peer-found tables time c m random (replicate n 0) (replicate l 0) r any-found z;
         }
 
 -- ---- the three parts of what is handed on

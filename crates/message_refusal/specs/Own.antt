@@ -1,4 +1,4 @@
--- What checks 4 to 8 of a message find, as the code has it.
+-- What the checks of a message find, but for the last, as the code has it.
 use Prim.Native.Nat.{ℕ}
 use mathlib.Core.Bool.{not, _&&_}
 use mathlib.Core.List.{List, [], _∷_}

@@ -1,37 +1,49 @@
--- What calls cost, and what is left of a level: a table for each kind, since one run computes no more. Assumes nothing.
+-- What calls cost, and what is left of a level: each part is computed by itself, since one run computes no more. Assumes nothing.
 use mathlib.Core.Path.{refl}
-use Rattle.examples.specs.Examples.{Holds}
-use Rattle.price_examples.specs.Prices.{opens, leases, cookies, extensions, sessions, sent, unpaid, left}
+use mathlib.Core.List.{List, _++_, map-append}
+use Rattle.examples.specs.Examples.{Example, Holds}
+use Rattle.price_examples.specs.Prices.{opens, leases, cookies, extensions, sessions, sent, unpaid, left, prices}
 
-pub opens-cost : Holds opens
+beside : (a b : List Example) → Holds a → Holds b → Holds (a ++ b)
+beside a b h k = rw (map-append (λ (e : Example). e .given) a b, map-append (λ (e : Example). e .said) a b, h, k)
+
+opens-cost : Holds opens
 unfolding opens
 opens-cost = refl
 
-pub leases-cost : Holds leases
+leases-cost : Holds leases
 unfolding leases
 leases-cost = refl
 
-pub cookies-cost : Holds cookies
+cookies-cost : Holds cookies
 unfolding cookies
 cookies-cost = refl
 
-pub extensions-cost : Holds extensions
+extensions-cost : Holds extensions
 unfolding extensions
 extensions-cost = refl
 
-pub sessions-cost : Holds sessions
+sessions-cost : Holds sessions
 unfolding sessions
 sessions-cost = refl
 
-pub sends-cost : Holds sent
+sends-cost : Holds sent
 unfolding sent
 sends-cost = refl
 
-pub free-calls : Holds unpaid
+free-calls : Holds unpaid
 unfolding unpaid
 free-calls = refl
 
--- Levels that suffice, and levels that don't.
-pub levels-left : Holds left
+levels-left : Holds left
 unfolding left
 levels-left = refl
+
+-- The whole table.
+pub worked-prices : Holds prices
+worked-prices =
+    beside opens _ opens-cost
+    (beside leases _ leases-cost
+    (beside cookies _ cookies-cost
+    (beside extensions _ extensions-cost
+    (beside sessions _ sessions-cost (beside sent _ sends-cost (beside unpaid left free-calls levels-left))))))

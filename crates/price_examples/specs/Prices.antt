@@ -165,3 +165,7 @@ left =
     ∷ leaves (withLevel leased 140 100) (sends 100 1 (6 ∷ 0 ∷ 0 ∷ 0 ∷ 1 ∷ [])) (0 ∷ 0 ∷ [])
     ∷ leaves (withLevel leased 139 100) (sends 100 1 (6 ∷ 0 ∷ 0 ∷ 0 ∷ 1 ∷ [])) (9 ∷ 139 ∷ [])
     ∷ []
+
+-- all of it
+abbrev pub prices : List Example
+prices = opens ++ (leases ++ (cookies ++ (extensions ++ (sessions ++ (sent ++ (unpaid ++ left))))))

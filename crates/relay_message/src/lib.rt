@@ -23,7 +23,7 @@ pub extern "C" fn crondelith_message(
         ≡ shown (step (lent (now (connections .entry)) (now (leases .entry)) (now (allowances .entry)))
         (message time connection (now (m .entry)) (now (random .entry)) (now (reply .entry)) (now (relay .entry)))) ⌝ }
 {
-    let assessed = message_refusal::assess(
+    let assessment = message_refusal::assess(
         connections,
         leases,
         allowances,
@@ -34,11 +34,11 @@ pub extern "C" fn crondelith_message(
         reply.len(),
         relay.len(),
     );
-    if assessed.number != 0 {
-        return answers::sent_nothing(assessed.number);
+    if assessment.number != 0 {
+        return answers::sent_nothing(assessment.number);
     }
     let c = connection as u8;
-    let decision = assessed.decision;
+    let decision = assessment.decision;
     let answer = dispatch::handle(
         connections,
         leases,
@@ -60,6 +60,6 @@ pub extern "C" fn crondelith_message(
         answer.relay,
         answer.destination,
     );
-    charges::settle(allowances, time, c, m, assessed.price);
+    charges::settle(allowances, time, c, m, assessment.price);
     answer
 }

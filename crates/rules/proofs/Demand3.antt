@@ -12,7 +12,7 @@ use Rattle.rules.specs.Runs.{relayMeter}
 use Rattle.rules.specs.Demand3.{RelayDemand3}
 use Rattle.rules.proofs.Checks.{none-applies}
 use Rattle.rules.proofs.Allowances.{fresh-bucket, fresh-clock}
-use Rattle.rules.proofs.Metered.{charged-as-told, relay-metered}
+use Rattle.rules.proofs.Metered.{price-if-done, charged-as-told, relay-metered}
 
 module _ (lent : Tables) (now : ℕ) where
   pub start-number : start lent now .answer .number ≡ checkStart lent now
@@ -42,6 +42,7 @@ all = demand3 relayMeter relay-metered
 
 pub relay-demand3 : RelayDemand3
 relay-demand3 = record {
+  price-if-done = price-if-done;
   price-is-cost = λ tables call e. sym (charged-as-told tables call e);
   every-run = λ lent now e calls. all .fresh-runs (start lent now .tables) now (start-is-fresh lent now e) calls;
   any-tables = λ tables calls. all .all-runs tables calls;

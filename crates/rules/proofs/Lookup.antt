@@ -1,14 +1,15 @@
 -- Whom a decision names, and that a done send needs nothing else of the session: 02, Item 4, "a send looks its session up once, before
 -- copying". Assumes nothing.
 use Prim.Native.Nat.{ℕ}
-use mathlib.Core.Path.{_≡_, refl, sym, _∙_}
-use mathlib.Core.Logic.{_≢_, _⊎_, inl, inr, ⊎-elim, _↔_}
-use mathlib.Core.Bool.{Bool, true, false, _||_}
+use mathlib.Core.Path.{_≡_, sym, _∙_}
+use mathlib.Core.Logic.{_≢_, _↔_}
+use mathlib.Core.Bool.{true}
 use mathlib.Core.List.{List}
 use native.Mathlib.Omega.{arith}
 use lib.Dec.{eqb}
 use lib.ListN.{drop}
 use borrow.Author.Tests.{eqb-true}
+use Rattle.octets.proofs.Tests.{either}
 use Rattle.svsc.specs.Messages.{typeOf, encode, decode, fromPeer}
 use Rattle.svsc.specs.Copying.{copied, copyData}
 use Rattle.svsc.proofs.Copying.{copy-done}
@@ -33,20 +34,15 @@ module _ (tables : Tables) (now c : ℕ) (m random reply relay : List ℕ) (h : 
   abbrev decision : Decision
   decision = decideMessage cs (tables .leases) now c random (decode m)
 
-  either : (a b : Bool) → a || b ≡ true → (a ≡ true) ⊎ (b ≡ true)
-  either true b e = inl refl
-  either false b e = inr e
-
   fits : fromPeer m ≡ true
   fits = from-peer tables now c m random reply relay h
 
   names-peer : needsSession (typeOf m) ≡ true → otherOf decision ≡ peer cs c
   unfolding decideMessage
   names-peer t =
-      ⊎-elim
+      either (eqb (typeOf m) 9) (eqb (typeOf m) 11) t (otherOf decision ≡ peer cs c)
       (λ e. rw (end-read m fits (eqb-true (typeOf m) 9 e)))
       (λ e. rw (data-read m fits (eqb-true (typeOf m) 11 e)))
-      (either (eqb (typeOf m) 9) (eqb (typeOf m) 11) t)
 
   -- Of a message that passes checks 1 to 8 the decision names another connection exactly if it is of type 9 or 11, and that is the one in session with
   -- the sender.

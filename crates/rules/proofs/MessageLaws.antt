@@ -57,7 +57,7 @@ module _ (tables : Tables) (call : Call) (cs ls : List ℕ) where
   unfolding done put
   sent-nothing = record { answer = refl; reply = refl; relay = refl }
 
--- the lengths of the two messages of a session that begins
+-- what a message that is done has done, by what it is
 module _
     (tables : Tables) (now c : ℕ) (m random reply relay : List ℕ) (e : Accepted tables (message now c m random reply relay))
   where

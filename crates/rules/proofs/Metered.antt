@@ -13,10 +13,11 @@ use Rattle.octets.specs.Octets.{if_then_else_}
 use Rattle.allowance.specs.Bucket.{capacity, refillRate, Bucket, spend}
 use Rattle.allowance.specs.Meter.{Metered}
 use Rattle.allowance.proofs.Numbers.{level≤capacity}
-use Rattle.rules.specs.Sizes.{partners, allowancesSize, retryAfter, timeLimit}
+use Rattle.rules.specs.Sizes.{partners, allowancesSize, greatestPrice, retryAfter, timeLimit}
 use Rattle.rules.specs.Tables.{Tables, bucketOf, clock, setBucket, setClock, allowanceAt, bucketBytes}
 use Rattle.rules.specs.Calls.{Call, timeOf, callerOf, Outcome}
 use Rattle.rules.specs.Charges.{charged, cost, price, callerLevel, charge}
+use Rattle.rules.specs.Plans.{plan}
 use Rattle.rules.specs.Checks.{precheck, firstEight}
 use Rattle.rules.specs.Step.{step, done}
 use Rattle.rules.specs.Runs.{relayMeter}
@@ -64,7 +65,7 @@ module _ (al : List ℕ) (call : Call) (amount : ℕ) where
 -- ---- the price
 
 -- Three seconds refill more than the dearest call costs.
-dearest : 131100 ≤ min capacity (refillRate * retryAfter)
+dearest : greatestPrice ≤ min capacity (refillRate * retryAfter)
 dearest = lit≤ tt
 
 -- ---- one call
@@ -100,11 +101,14 @@ module _ (tables : Tables) (call : Call) (e : step tables call .answer .number �
       (bucket-clocked charged-table (timeOf call) p p<
       ∙ bucket-charge (tables .allowances) call (price tables call) (ok .allowances) (ok .of-partner) (ok .in-limit) p)
 
--- The bytes of the plan's two messages are those that the answer tells.
+-- The bytes of the plan's two messages are those that the answer tells if the call is done.
+pub price-if-done : (tables : Tables) (call : Call) → price tables call ≡ cost call (done tables call (plan tables call) .answer)
+unfolding cost price done
+price-if-done tables call = refl
+
 pub charged-as-told : (tables : Tables) (call : Call) → step tables call .answer .number ≡ 0
     → cost call (step tables call .answer) ≡ price tables call
-unfolding cost price done
-charged-as-told tables call e = rw (is-done tables call e)
+charged-as-told tables call e = rw (is-done tables call e) (sym (price-if-done tables call))
 
 pub relay-metered : Metered relayMeter
 relay-metered = record {

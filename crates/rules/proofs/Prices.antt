@@ -14,7 +14,7 @@ use Rattle.octets.specs.Octets.{if_then_else_, part, numberAt, bigEndian}
 use Rattle.octets.proofs.Numbers.{length-bigEndian}
 use Rattle.octets.proofs.Parts.{length-part}
 use Rattle.svsc.specs.Messages.{LeaseGranted, Established, EstablishNotification, longestMessage, cookieBytes, Message, VersionAnswer, ExtensionRequest, EstablishRequest, DataSend, Keepalive, typeOf, encode, decode, digits, fromPeer}
-use Rattle.rules.specs.Sizes.{callCost, randomBytes}
+use Rattle.rules.specs.Sizes.{callCost, greatestPrice, randomBytes}
 use Rattle.rules.specs.Searches.{endRow}
 use Rattle.rules.specs.Tables.{Tables, partnerOf, idOf, cookieAt, cookieOf}
 use Rattle.rules.specs.Leases.{LeaseDecision, holdsLease, noSpareRow, cookieInUse, noFreeId, renewed, granted, decideLease, leaseEnd, rowToExtend}
@@ -141,18 +141,14 @@ module _
         every-decision (λ d. sentBytes c d ≤ longestMessage) tables now c m random reply relay h
         (record {
           version-answered = λ t ok. lit≤ tt;
-          lease-decided = λ t cookie. one-of (isAccepted (decideLease cs ls now c random cookie)) (lit≤ tt) (lit≤ tt);
-          extension-decided = λ t cookie. one-of (ltb (rowToExtend ls now c cookie) (endRow (partnerOf c))) (lit≤ tt) (lit≤ tt);
+          lease-decided = λ t cookie. by-test (λ n. n ≤ longestMessage) (isAccepted (decideLease cs ls now c random cookie)) (λ _. lit≤ tt) (λ _. lit≤ tt);
+          extension-decided = λ t cookie. by-test (λ n. n ≤ longestMessage) (ltb (rowToExtend ls now c cookie) (endRow (partnerOf c))) (λ _. lit≤ tt) (λ _. lit≤ tt);
           session-decided = λ t id o. go (decideEstablish cs ls now c id) id;
           session-ended = λ t s. lit≤ tt;
           data-sent = λ t s bytes l. omega arith;
           nothing-asked = lit≤ tt;
         })
       where
-        one-of : (t : Bool) {a b : ℕ} → a ≤ longestMessage → b ≤ longestMessage → (if t then a else b) ≤ longestMessage
-        one-of true l u = l
-        one-of false l u = u
-
         go : (d : EstablishDecision) (id : ℕ) → sentBytes c (sessionDecided id d) ≤ longestMessage
         go (refusedWith status) id = lit≤ tt
         go (establishedWith holder) id = lit≤ tt
@@ -240,10 +236,10 @@ module _
     heard-price t =
         omega (arith, price-of Keepalive (by-type m fits .thirteen t) (λ z. omega arith), keepalive-length m fits t)
 
-    message-most : price tables sent ≤ 131100
+    message-most : price tables sent ≤ greatestPrice
     message-most = go (ℕ-discrete (typeOf m) 9)
       where
-        go : Dec (typeOf m ≡ 9) → price tables sent ≤ 131100
+        go : Dec (typeOf m ≡ 9) → price tables sent ≤ greatestPrice
         go (yes t) = omega (arith, end-price t)
         go (no n) = omega (arith, message-price n, bytes-most, peer-length m fits)
 
@@ -271,7 +267,7 @@ module _ (tables : Tables) where
   unfolding price
   keepalive-price now c reply relay = refl
 
-  price-most : (call : Call) → precheck tables call ≡ 0 → price tables call ≤ 131100
+  price-most : (call : Call) → precheck tables call ≡ 0 → price tables call ≤ greatestPrice
   price-most (opening now c reply) h = omega (arith, open-price now c reply)
   price-most (message now c m random reply relay) h = message-most tables now c m random reply relay h
   price-most (closing now c relay) h = omega (arith, close-price now c relay)

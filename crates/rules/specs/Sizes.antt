@@ -77,6 +77,10 @@ callCost = 32
 abbrev pub openCost : ℕ
 openCost = 45
 
+-- "the longest send 131,100": nothing costs more (law Prices.prices)
+abbrev pub greatestPrice : ℕ
+greatestPrice = 131100
+
 -- "is not refused with 9 for the same bytes two seconds of clock later"; 02, Item 5: "the two seconds in 01 become three"
 abbrev pub retryAfter : ℕ
 retryAfter = 3

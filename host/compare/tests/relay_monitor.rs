@@ -183,7 +183,7 @@ fn check(history: &[Entry], left: u64) -> Result<(), Fault> {
 const LEFT: u64 = 65_508;
 
 /// The same calls, one thing of them changed.
-const WRONG_HISTORIES: [fn(&mut Vec<Entry>); 18] = [
+const WRONG_HISTORIES: [fn(&mut Vec<Entry>); 19] = [
     |history| history[0].answer.number = 9,
     |history| history[1].answer.number = 0,
     |history| history[1].answer.number = 8,
@@ -192,6 +192,7 @@ const WRONG_HISTORIES: [fn(&mut Vec<Entry>); 18] = [
     |history| history[1].price = None,
     |history| history[5].price = Some(131_072),
     |history| history[0].price = Some(131_099),
+    |history| history[0].price = None,
     |history| history[0].answer.relay -= 1,
     |history| history[0].answer.reply += 1,
     |history| history[0].message.push(11),

@@ -1,7 +1,7 @@
 -- `decide`: in each arm what the rules decide.
 use mathlib.Core.Path.{refl, _∙_}
 use Rattle.rules.specs.Decisions.{decideMessage}
-use Rattle.decisions.proofs.Ways.{arm-decides, rest-decides, lease-decides, end-decides, send-decides}
+use Rattle.decisions.proofs.Ways.{arm-decides, rest-decides, lease-decides}
 use borrow.Author.Needs.{needs}
 use Rattle.decisions.proofs.decide.Statement.{statement}
 use Rattle.decisions.proofs.decide.Tie as tie
@@ -51,13 +51,13 @@ unfolding decideMessage
 returns c =
     let s = c .before .before .before in
     let a = s .before .before .before .before .before .args in
-    arm-decides (a .connections .now) (a .leases .now) (a .time) (a .c) (a .random .now) (a .m .now) _ (s .read .ensures) _ _ (c .before .d .given .1) refl
+    arm-decides (a .connections .now) (a .leases .now) (a .time) (a .c) (a .other) (a .random .now) (a .m .now) _ (s .read .ensures) _ _ (c .before .d .given .1) refl
 
 returns-2 : tie.Need-returns-2
 returns-2 c =
     let s = c .before .before .before in
     let a = s .before .before .before .before .before .args in
-    lease-decides (a .connections .now) (a .leases .now) (a .time) (a .c) (a .random .now) (a .m .now) (s .read .result) (s .read .ensures) (c .before .before .match .keys2) _
+    lease-decides (a .connections .now) (a .leases .now) (a .time) (a .c) (a .other) (a .random .now) (a .m .now) (s .read .result) (s .read .ensures) (c .before .before .match .keys2) _
     (c .decide-lease .ensures ∙ rw (c .before .part .ensures))
 
 returns-3 : tie.Need-returns-3
@@ -65,7 +65,7 @@ unfolding decideMessage
 returns-3 c =
     let s = c .before .before .before .before in
     let a = s .before .before .before .before .before .args in
-    arm-decides (a .connections .now) (a .leases .now) (a .time) (a .c) (a .random .now) (a .m .now) _ (s .read .ensures) _ _ (c .before .before .enum-told .given .1)
+    arm-decides (a .connections .now) (a .leases .now) (a .time) (a .c) (a .other) (a .random .now) (a .m .now) _ (s .read .ensures) _ _ (c .before .before .enum-told .given .1)
     (rw (c .row-to-extend .ensures, c .before .part2 .ensures))
 
 returns-4 : tie.Need-returns-4
@@ -73,28 +73,28 @@ unfolding decideMessage
 returns-4 c =
     let s = c .before .before .before .before in
     let a = s .before .before .before .before .before .args in
-    arm-decides (a .connections .now) (a .leases .now) (a .time) (a .c) (a .random .now) (a .m .now) _ (s .read .ensures) _ _ (c .before .before .d2 .given .1)
+    arm-decides (a .connections .now) (a .leases .now) (a .time) (a .c) (a .other) (a .random .now) (a .m .now) _ (s .read .ensures) _ _ (c .before .before .d2 .given .1)
     (rw (c .decide .ensures))
 
 returns-5 : tie.Need-returns-5
+unfolding decideMessage
 returns-5 c =
     let s = c .before .before in
-    let entry = s .before .before .before .before .before in
-    let a = entry .args in
-    end-decides (a .connections .now) (a .leases .now) (a .time) (a .c) (a .random .now) (a .m .now) _ (s .read .ensures) (a .other) (entry .pre .3) (c .enum-told2 .given .1)
+    let a = s .before .before .before .before .before .args in
+    arm-decides (a .connections .now) (a .leases .now) (a .time) (a .c) (a .other) (a .random .now) (a .m .now) _ (s .read .ensures) _ _ (c .enum-told2 .given .1) refl
 
 returns-6 : tie.Need-returns-6
+unfolding decideMessage
 returns-6 c =
     let s = c .before .before in
-    let entry = s .before .before .before .before .before in
-    let a = entry .args in
-    send-decides (a .connections .now) (a .leases .now) (a .time) (a .c) (a .random .now) (a .m .now) _ (s .read .ensures) (a .other) (entry .pre .3) (c .enum-told3 .given .1)
+    let a = s .before .before .before .before .before .args in
+    arm-decides (a .connections .now) (a .leases .now) (a .time) (a .c) (a .other) (a .random .now) (a .m .now) _ (s .read .ensures) _ _ (c .enum-told3 .given .1) refl
 
 returns-7 : tie.Need-returns-7
 returns-7 c =
     let s = c .before in
     let a = s .before .before .before .before .before .args in
-    rest-decides (a .connections .now) (a .leases .now) (a .time) (a .c) (a .random .now) (a .m .now) (s .read .result) (s .read .ensures) (c .match .keys7)
+    rest-decides (a .connections .now) (a .leases .now) (a .time) (a .c) (a .other) (a .random .now) (a .m .now) (s .read .result) (s .read .ensures) (c .match .keys7)
 
 pub decide-spec : {M : Type 1} → statement M
 decide-spec =

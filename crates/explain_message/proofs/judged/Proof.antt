@@ -34,10 +34,10 @@ returns c cs ls random reply relay all h =
     let a = c .before .before .before .before .before .before .args in
     let tables = lent cs ls (a .allowances .now) in
     let call = message (a .time) (a .c) (a .m .now) random reply relay in
-    let e = assessed-number tables (a .time) (a .c) (a .m .now) random reply relay (a .found) all in
+    let e = assessed-number tables (a .time) (a .c) (a .m .now) random reply relay (a .assessment) all in
     c .without-headroom .ensures
     ∙ free-way tables call _ e (message-free (a .time) (a .c) (a .m .now) random reply relay _ (c .before .before .byte .ensures) (c .before .if1 .taken)) _
-    (decided-is tables (a .time) (a .c) (a .m .now) random reply relay (a .found) all h _ (c .before .before .before .decided .ensures (a .m .now) random))
+    (decided-is tables (a .time) (a .c) (a .m .now) random reply relay (a .assessment) all h _ (c .before .before .before .decided .ensures (a .m .now) random))
 
 partner-of-requires : tie.Need-partner-of-requires
 partner-of-requires c κs = search needs
@@ -56,12 +56,12 @@ returns-2 c cs ls random reply relay all h =
     let a = c .before .before .before .before .before .before .before .before .args in
     let tables = lent cs ls (a .allowances .now) in
     let call = message (a .time) (a .c) (a .m .now) random reply relay in
-    let e = assessed-number tables (a .time) (a .c) (a .m .now) random reply relay (a .found) all in
+    let e = assessed-number tables (a .time) (a .c) (a .m .now) random reply relay (a .assessment) all in
     c .with-headroom .ensures
     ∙ charged-way tables call _ e h (message-charged (a .time) (a .c) (a .m .now) random reply relay _ (c .before .before .before .before .byte .ensures) (c .before .before .before .if1 .left)) _
-    (decided-is tables (a .time) (a .c) (a .m .now) random reply relay (a .found) all h _ (c .before .before .before .before .before .decided .ensures (a .m .now) random)) _ _
+    (decided-is tables (a .time) (a .c) (a .m .now) random reply relay (a .assessment) all h _ (c .before .before .before .before .before .decided .ensures (a .m .now) random)) _ _
     (c .before .level .ensures ∙ rw (c .before .before .partner-of .ensures))
-    (assessed-price tables (a .time) (a .c) (a .m .now) random reply relay (a .found) all h)
+    (assessed-price tables (a .time) (a .c) (a .m .now) random reply relay (a .assessment) all h)
 
 pub judged-spec : {M : Type 1} → statement M
 judged-spec =

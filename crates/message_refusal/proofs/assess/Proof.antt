@@ -38,7 +38,7 @@ decide-requires c κs =
     let s = c .before .before in
     let a = s .before .before .before .before .before .before .args in
     let ok = eight-known (lent (a .connections .now) (a .leases .now) (a .allowances .now)) (a .time) (a .connection) (a .m .now) (a .random .now) (a .reply-length) (a .relay-length) _ (s .first-eight .ensures) (c .if1 .left) in
-    (ok .leases, ok .known, ok .random-size, ok .paired)
+    (ok .leases, ok .known, ok .random-size)
 
 price-requires : tie.Need-price-requires
 price-requires c κs =

@@ -146,9 +146,9 @@ impl Monitor {
         }
         match (entry.partner, entry.answer.number) {
             (Some(partner), 0) if entry.charged => {
-                check_cost(entry)?;
                 self.note_retry(partner, entry);
-                self.spend(partner, entry.now, entry.cost())
+                self.spend(partner, entry.now, entry.cost())?;
+                check_cost(entry)
             }
             (Some(partner), 9) => {
                 self.note_retry(partner, entry);
@@ -221,12 +221,13 @@ impl Monitor {
     }
 }
 
-/// The cost that stands in history is the price by which the call was judged.
+/// The cost that stands in history is the price by which the call was judged. One that no price was known of should have
+/// been stopped before.
 fn check_cost(entry: &Entry) -> Result<(), Fault> {
-    match entry.price {
-        Some(price) if price != entry.cost() => Err(Fault(format!("cost {}: {}", entry.cost(), shown(entry)))),
-        _ => Ok(()),
+    if entry.price == Some(entry.cost()) {
+        return Ok(());
     }
+    Err(Fault(format!("cost {}: {}", entry.cost(), shown(entry))))
 }
 
 fn shown(entry: &Entry) -> String {

@@ -12,7 +12,7 @@ use crate::message::{DATA_SEND, ESTABLISH_REQUEST, LEASE_REQUEST};
 use crate::refusal::{Consequence, Refusal, ShortRefusal};
 
 /// What a partner's messages may cost in a turn if no other has any: so much that the turn's own cost hardly counts. It is
-/// as much as two sends of the largest size, which is what a connection's input holds.
+/// about as much as two sends of the largest size, which is what a connection's input holds.
 const TURN: usize = 262_144;
 /// What they may cost together if several partners have any: so little that a neighbour doesn't wait long for the next.
 const SHARED_TURN: usize = 32_768;
