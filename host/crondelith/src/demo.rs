@@ -30,7 +30,7 @@ pub struct Arguments {}
 /// Which partner floods, and which sends the file.
 const FLOOD: usize = 0;
 const FILE: usize = 1;
-/// It costs somewhat more than twice as much, four seconds' refill beyond the allowance.
+/// It costs somewhat more than twice as much: that is the allowance and a little more than four seconds' refill.
 const FILE_LENGTH: usize = 256 * 1024;
 /// By then the flood has used up its allowance.
 const FLOOD_LEAD: Duration = Duration::from_millis(800);

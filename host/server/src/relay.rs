@@ -13,6 +13,8 @@ use crate::{CONNECTIONS_EACH, PARTNERS};
 const RECORD_LENGTH: usize = 16;
 /// Bytes of each of these numbers.
 const NUMBER_LENGTH: usize = RECORD_LENGTH / 2;
+/// Bytes of a lease's record, which begins with its expiry.
+const LEASE_LENGTH: usize = 40;
 /// The most that a partner has, and what it gets each second.
 const CAPACITY: u64 = 262_144;
 const REFILL: u64 = 65_536;
@@ -49,10 +51,13 @@ impl Tables {
 
     /// The two numbers of a partner's record, or of the last.
     fn allowance(&self, record: usize) -> [u64; 2] {
-        let start = Self::SIZE - relay::ALLOWANCES + record * RECORD_LENGTH;
-        let number =
-            |start| self.0[start..][..NUMBER_LENGTH].iter().fold(0, |number, byte| number << 8 | u64::from(*byte));
-        [start, start + NUMBER_LENGTH].map(number)
+        let record = &self.view().allowances[record * RECORD_LENGTH..];
+        [record, &record[NUMBER_LENGTH..]].map(number_at_start)
+    }
+
+    /// When the leases end, in the order of their rows; of rows that were never leased, 0.
+    pub fn lease_ends(&self) -> impl Iterator<Item = u64> + '_ {
+        self.view().leases.chunks_exact(LEASE_LENGTH).map(number_at_start)
     }
 
     /// Whether they are others than these, also if the clock were the same.
@@ -74,6 +79,10 @@ impl Tables {
         let (leases, allowances) = rest.split_at_mut(relay::LEASES);
         relay::Tables { connections, leases, allowances }
     }
+}
+
+fn number_at_start(bytes: &[u8]) -> u64 {
+    bytes[..NUMBER_LENGTH].iter().fold(0, |number, byte| number << 8 | u64::from(*byte))
 }
 
 pub struct Relay {

@@ -90,7 +90,7 @@ mod tests {
     }
 
     #[test]
-    fn bytes_are_shared_and_not_messages() {
+    fn costs_are_shared_and_not_messages() {
         let spent = spent(&[131_100, 33, 2_082], 30_000);
         let (least, most) = (spent.iter().min().expect("three"), spent.iter().max().expect("three"));
         assert!(*least > 500_000 && most - least <= 2 * 131_100, "{spent:?}");

@@ -64,24 +64,22 @@ impl Call {
         }
     }
 
-    /// When a call that can't be paid now can be, at the earliest, if its partner makes no charged call meanwhile. What a
-    /// partner has then only grows, so the first such time is found by halving. None if the clock ends before. Data costs
-    /// the same at any time; what a request costs may change as leases end, but a second's refill pays for any.
-    pub fn payable_at(&self, tables: Tables) -> Option<u64> {
-        let is_short = |time| self.reason_at(tables, time).shortfall().is_some();
-        let (mut short, mut enough) = (self.time, CLOCK_LIMIT - 1);
-        if is_short(enough) {
-            return None;
-        }
-        while enough - short > 1 {
-            let middle = short + (enough - short) / 2;
-            if is_short(middle) {
-                short = middle;
-            } else {
-                enough = middle;
+    /// When a call that can't be paid now can be, at the earliest, if its partner makes no charged call meanwhile. None if
+    /// the clock ends before. What a call costs may change when a lease ends, and only then; up to the next such time what
+    /// the partner has only grows, so that it can be paid at some time of that stretch exactly if it can at its last.
+    pub fn payable_at(&self, tables: &server::Tables) -> Option<u64> {
+        let is_short = |time| self.reason_at(tables.view(), time).shortfall().is_some();
+        let ends = tables.lease_ends().filter(|end| (self.time + 1..CLOCK_LIMIT).contains(end));
+        let mut ends: Vec<u64> = ends.chain([CLOCK_LIMIT]).collect();
+        ends.sort_unstable();
+        let mut start = self.time;
+        for end in ends {
+            if !is_short(end - 1) {
+                return Some(first_without(is_short, start, end - 1));
             }
+            start = end;
         }
-        Some(enough)
+        None
     }
 
     /// The message, if it is one.
@@ -96,4 +94,17 @@ impl Call {
     pub fn partner(&self) -> Option<u64> {
         (self.connection < CONNECTIONS).then_some(self.connection / CONNECTIONS_EACH as u64)
     }
+}
+
+/// The first time from one to another of which this isn't so, by halving: it is so up to some time, and of the last it isn't.
+fn first_without(is_so: impl Fn(u64) -> bool, mut from: u64, mut to: u64) -> u64 {
+    while from < to {
+        let middle = from + (to - from) / 2;
+        if is_so(middle) {
+            from = middle + 1;
+        } else {
+            to = middle;
+        }
+    }
+    to
 }

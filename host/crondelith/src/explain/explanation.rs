@@ -49,7 +49,7 @@ impl Explanation {
     pub fn new(call: Call, tables: &Tables) -> Self {
         let reason = call.reason(tables.view());
         let level = call.partner().map(|partner| tables.level(partner as usize, call.time));
-        let payable_at = reason.shortfall().and_then(|_| call.payable_at(tables.view()));
+        let payable_at = reason.shortfall().and_then(|_| call.payable_at(tables));
         let due = call.due(tables).filter(|_| reason.check == 0);
         Self { call, clock: tables.clock(), reason, level, payable_at, due }
     }

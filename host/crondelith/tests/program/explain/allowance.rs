@@ -5,10 +5,11 @@ use std::io::Write;
 use std::path::Path;
 
 use serde_json::json;
+use server::{CONNECTIONS_EACH, PARTNERS};
 
 use super::{
     assert_has, assert_lacks, await_saved, clock, end, establish, explain, explain_message, explain_open, level, peer,
-    relay, told, with_allowance, Scene, Session, FIRST, KEEPALIVE, LONGEST, PARTNER, SECOND,
+    relay, told, with_allowance, Scene, Session, FIRST, KEEPALIVE, LONGEST, PARTNER, RECORD, SECOND, THIRD,
 };
 use crate::support::text;
 
@@ -101,6 +102,54 @@ fn a_request_can_come_to_cost_less_before_it_can_be_paid() {
     assert_has(&told, json!({ "check": 9, "cost": 140, "shortfall": 1, "payable_at": end }));
     let told = explain_message(&with_allowance(state, 42, later), SECOND, &establish(*id), &[]);
     assert_has(&told, json!({ "check": 9, "cost": 140, "shortfall": 98, "payable_at": later + 1 }));
+}
+
+/// Three rows with the id, as no run leaves them: the first to end has a holder, and so has the last; the one between has
+/// none. So a session can be established, then not, and then again; and there is no refill all the while.
+#[test]
+fn a_request_can_come_to_cost_more_again_before_there_is_a_refill() {
+    let (relay, state) = relay("explain_dearer");
+    end(relay);
+    let now = clock(&state);
+    let mut bytes = fs::read(&state).expect("a state");
+    [FIRST, SECOND, THIRD].iter().for_each(|connection| bytes[64 * connection] = 2);
+    for (row, (expiry, holder)) in
+        [(now + 10, SECOND as u8), (now + 20, 255), (now + 1_000, THIRD as u8)].iter().enumerate()
+    {
+        let row = &mut bytes[4_096 + (PARTNER * 16 + row) * 40..][..40];
+        row[..8].copy_from_slice(&expiry.to_be_bytes());
+        row[8..13].copy_from_slice(&[0, 0, 0, 7, *holder]);
+    }
+    fs::write(&state, bytes).expect("a state");
+    let copy = with_allowance(&state, 50, now + 100_000);
+    let at = |time: u64| explain_message(&copy, FIRST, &establish(7), &["--time", &time.to_string()]);
+    assert_has(&at(now), json!({ "check": 9, "cost": 140, "payable_at": now + 10, "payable_after": 10 }));
+    assert_has(&at(now + 9), json!({ "check": 9, "cost": 140, "payable_at": now + 10, "payable_after": 1 }));
+    for paid in [now + 10, now + 19] {
+        assert_has(&at(paid), json!({ "check": 0, "cost": 43, "left": 7, "status": 2 }));
+    }
+    assert_has(&at(now + 20), json!({ "check": 9, "cost": 140, "payable_at": now + 1_000 }));
+    assert_has(&at(now + 1_000), json!({ "check": 0, "cost": 43, "left": 7, "status": 1 }));
+}
+
+#[test]
+fn each_partner_s_level_is_its_own() {
+    let (relay, state) = relay("explain_partners");
+    end(relay);
+    let now = clock(&state);
+    let mut bytes = fs::read(&state).expect("a state");
+    let start = bytes.len() - RECORD * (PARTNERS + 1);
+    let level = |partner| 1_000 + 111 * partner as u64;
+    for partner in 0..PARTNERS {
+        bytes[start + RECORD * partner..][..8].copy_from_slice(&level(partner).to_be_bytes());
+        bytes[start + RECORD * partner + 8..][..8].copy_from_slice(&now.to_be_bytes());
+    }
+    fs::write(&state, bytes).expect("a state");
+    for partner in 0..PARTNERS {
+        let told = explain_open(&state, partner * CONNECTIONS_EACH);
+        let has = level(partner);
+        assert_has(&told, json!({ "partner": partner, "cost": 45, "level": has, "left": has - 45 }));
+    }
 }
 
 #[test]
