@@ -48,11 +48,6 @@ nines = replicate 24 9
 abbrev eights : List ℕ
 eights = replicate 24 8
 
--- the same random bytes but for another cookie and id 5
-unfoldable pub fives : List ℕ
-unfolding computed
-fives = eights ++ (bigEndian 4 5 ++ replicate 52 3)
-
 -- ---- the table of the request, in its order
 
 unfoldable pub opens : List Example
@@ -64,21 +59,14 @@ opens =
     ∷ costs waiting (sends 100 0 (1 ∷ 0 ∷ [])) 34
     ∷ []
 
--- a lease, refused and granted; with a cookie, refused, granted and renewed
+-- a lease, refused and granted; with a cookie, refused and granted
 unfoldable pub leases : List Example
 unfolding computed random free leased
-leases =
-    costs leased (sends 100 0 (2 ∷ 0 ∷ [])) 36
-    ∷ costs free (sends 100 0 (2 ∷ 0 ∷ [])) 72
-    ∷ costs leased (sends 100 0 (2 ∷ 1 ∷ nines)) 60
-    ∷ []
+leases = costs leased (sends 100 0 (2 ∷ 0 ∷ [])) 36 ∷ costs free (sends 100 0 (2 ∷ 0 ∷ [])) 72 ∷ []
 
 unfoldable pub cookies : List Example
-unfolding computed random free leased fives
-cookies =
-    costs free (sends 100 0 (2 ∷ 1 ∷ nines)) 96
-    ∷ costs leased (message 9000 0 (2 ∷ 1 ∷ nines) fives buffer buffer) 96
-    ∷ []
+unfolding computed random free leased
+cookies = costs leased (sends 100 0 (2 ∷ 1 ∷ nines)) 60 ∷ costs free (sends 100 0 (2 ∷ 1 ∷ nines)) 96 ∷ []
 
 -- an extension, refused and done
 unfoldable pub extensions : List Example
