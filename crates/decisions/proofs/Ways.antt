@@ -1,8 +1,8 @@
 -- A message by its type, over plain values: what its arm decides is what the rules decide; and what is sent by a decision. Assumes nothing.
 use Prim.Native.Nat.{ℕ, suc, _+_, _≤_, _<_}
 use mathlib.Core.Path.{_≡_, refl, sym, ap, _∙_}
-use mathlib.Core.Bool.{Bool, true, false}
-use mathlib.Core.Option.{Option, some}
+use mathlib.Core.Bool.{true, false}
+use mathlib.Core.Option.{Option}
 use mathlib.Core.List.{List, [], _∷_}
 use types.Run.{OneOf, miss}
 use denote.Enum.Declared.{tagOf}
@@ -10,8 +10,8 @@ use native.Mathlib.Omega.{arith}
 use lib.Dec.{ltb, lit≤}
 use lib.ListN.{length, drop, length-drop}
 use borrow.Author.Tests.{eq-eqb, ne-eqb, lt-ltb, le-ltb}
-use Rattle.octets.specs.Octets.{if_then_else_, byteAt, part}
-use Rattle.svsc.specs.Messages.{Message, SessionEnd, DataSend, encode, decode, typeOf, longestMessage}
+use Rattle.octets.specs.Octets.{byteAt, part}
+use Rattle.svsc.specs.Messages.{Message, decode, longestMessage}
 use Rattle.svsc_decoded.specs.Reading.{Answer, answer, meaning}
 use Rattle.svsc_decoded.specs.declared.Decoded.{Decoded}
 use Rattle.svsc_decoded.specs.declared.Decoded.the-variants as case
@@ -19,12 +19,11 @@ use Rattle.svsc_decoded.proofs.Decoded.{the-type}
 use Rattle.svsc_decoded.proofs.Cases.{in-arm, in-rest}
 use Rattle.rules.specs.Sizes.{callCost}
 use Rattle.rules.specs.Searches.{endRow}
-use Rattle.rules.specs.Tables.{partnerOf, peer}
+use Rattle.rules.specs.Tables.{partnerOf}
 use Rattle.rules.specs.Leases.{LeaseDecision, decideLease}
 use Rattle.rules.specs.Effects.{isAccepted}
-use Rattle.rules.specs.Decisions.{leaseDecided, sessionEnded, dataSent, nothingAsked, decideMessage}
+use Rattle.rules.specs.Decisions.{leaseDecided, nothingAsked, decideMessage}
 use Rattle.rules.specs.Decisions as rules
-use Rattle.rules.specs.Checks.{needsSession}
 use Rattle.rules.specs.Prices.{sentBytes}
 use Rattle.rules.proofs.Messages.{no-cookie}
 use Rattle.rules.proofs.Plans.{by-test}

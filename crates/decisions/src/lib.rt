@@ -56,7 +56,8 @@ pub fn decide(
 ) -> Decision
     requires { ⌜ (length (now leases) ≡ leasesSize) × (c < connectionCount) × (length (now random) ≡ randomBytes) ⌝ }
     ensures { λ r. ⌜ meaning r (now (m .entry)) (now (random .entry))
-        ≡ naming other (decideMessage (now (connections .entry)) (now (leases .entry)) time c (now (random .entry)) (decode (now (m .entry)))) ⌝ }
+        ≡ naming other (decideMessage (now (connections .entry)) (now (leases .entry)) time c (now (random .entry))
+        (decode (now (m .entry)))) ⌝ }
 {
     let d = svsc_reader::read(m);
     match d {
