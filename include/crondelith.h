@@ -28,8 +28,8 @@ extern "C" {
  *   3 connection 64 or more                9 costs more than the partner has left
  *   4 open: not closed; else: closed
  *   5 a buffer too short, or not 80 random bytes
- * A keepalive has 1 to 5, as a close has, but with both buffers at least CRONDELITH_BUFFER long. Making a fresh relay has 1 and the first
- * half of 2 alone. Times are whole seconds.
+ * A keepalive has 1 to 5, as a close has, but with both buffers at least CRONDELITH_BUFFER long. Making a fresh relay has 1, the first
+ * half of 2, and then 6, if its term is neither 0 nor from 600 to 86,400. Times are whole seconds.
  * A refused call changes no byte and answers 0, 0, CRONDELITH_NOBODY, 0.
  * A done open, or a done message other than SessionEnd, costs 32, the bytes of the message and the bytes that it answers, `reply` and `relay`
  * together: 45 an open, 131,100 the longest send. Anything else is free. 9 compares with what the call would cost if it were done.
@@ -42,8 +42,11 @@ typedef struct {
     uint32_t disconnect;  /* 1: the host has to disconnect the caller */
 } crondelith_answer;
 
+/* Leases are given, renewed and extended for `term` seconds from then on, 600 to 86,400; 0 means 600. The tables keep the term, as the level of
+ * the ninth allowance record, and no other call changes it. Tables from before there was a term have 0 there, and leases of 3,600 seconds.
+ */
 crondelith_answer crondelith_fresh(uint8_t *connections, size_t connections_length, uint8_t *leases, size_t leases_length,
-                                   uint8_t *allowances, size_t allowances_length, uint64_t now);
+                                   uint8_t *allowances, size_t allowances_length, uint64_t now, uint64_t term);
 
 crondelith_answer crondelith_open(uint8_t *connections, size_t connections_length, uint8_t *leases, size_t leases_length,
                                   uint8_t *allowances, size_t allowances_length, uint64_t now, uint64_t connection, uint8_t *reply,

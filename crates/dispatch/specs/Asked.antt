@@ -4,13 +4,14 @@ use mathlib.Core.Path.{_≡_}
 use mathlib.Core.List.{List}
 use lib.ListN.{length}
 use Rattle.svsc.specs.Messages.{longestMessage}
-use Rattle.rules.specs.Sizes.{connectionCount, leasesSize, leastBuffer, timeLimit, randomBytes}
+use Rattle.rules.specs.Sizes.{connectionCount, leasesSize, allowancesSize, leastBuffer, timeLimit, randomBytes}
 use Rattle.rules.specs.Decisions.{Decision, versionAnswered, leaseDecided, extensionDecided, sessionDecided, sessionEnded, dataSent, nothingAsked}
 use Rattle.leasing.specs.Asked.{InRows}
 use Rattle.establishing.specs.Asked.{InStatuses}
 
-pub record Admitted (ls : List ℕ) (time c : ℕ) (m random reply relay : List ℕ) : Type 0 where
+pub record Admitted (ls al : List ℕ) (time c : ℕ) (m random reply relay : List ℕ) : Type 0 where
   pub size : length ls ≡ leasesSize
+  pub allowances : length al ≡ allowancesSize
   pub known : c < connectionCount
   pub timely : time < timeLimit
   pub random-size : length random ≡ randomBytes

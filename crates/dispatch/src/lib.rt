@@ -22,7 +22,7 @@ pub fn handle(
     reply: &mut [u8],
     relay: &mut [u8],
 ) -> Answer
-    requires { ⌜ (Admitted (now leases) time c (now m) (now random) (now reply) (now relay))
+    requires { ⌜ (Admitted (now leases) (now allowances) time c (now m) (now random) (now reply) (now relay))
         × (Feasible (meaning decision (now m) (now random))) ⌝ }
     ensures { λ r. ⌜ handled r (now (connections .exit)) (now (leases .exit)) (now (reply .exit)) (now (relay .exit))
         ≡ applied (planDecided (lent (now (connections .entry)) (now (leases .entry)) (now (allowances .entry))) time c

@@ -55,14 +55,27 @@ sendsLong now c m = message now c m random buffer m
 abbrev longest : List ℕ
 longest = 11 ∷ replicate (longestMessage - 1) 0
 
--- connections 0 and 1 open and free; then a lease of connection 0 at 100; then the two in session
-unfoldable pub free : Tables
+-- a relay with a term: connections 0 and 1 open and free; then a lease of connection 0 at 100
+unfoldable pub freeWith : ℕ → Tables
 unfolding computed random
-free = after (fresh 100) (opening 100 0 buffer ∷ sends 100 0 (1 ∷ 1 ∷ []) ∷ opening 100 1 buffer ∷ sends 100 1 (1 ∷ 1 ∷ []) ∷ [])
+freeWith term = after (fresh 100 term) (opening 100 0 buffer ∷ sends 100 0 (1 ∷ 1 ∷ []) ∷ opening 100 1 buffer ∷ sends 100 1 (1 ∷ 1 ∷ []) ∷ [])
+
+unfoldable pub leasedWith : ℕ → Tables
+unfolding computed random freeWith
+leasedWith term = after (freeWith term) (sends 100 0 (2 ∷ 0 ∷ []) ∷ [])
+
+-- where no term is named; and then the two in session
+unfoldable pub free : Tables
+unfolding computed random freeWith
+free = freeWith 0
 
 unfoldable pub leased : Tables
-unfolding computed random free
-leased = after free (sends 100 0 (2 ∷ 0 ∷ []) ∷ [])
+unfolding computed random freeWith leasedWith
+leased = leasedWith 0
+
+unfoldable pub leasedForAnHour : Tables
+unfolding computed random freeWith leasedWith
+leasedForAnHour = leasedWith 3600
 
 unfoldable pub joined : Tables
 unfolding computed random leased
@@ -92,14 +105,14 @@ replied o = take (o .answer .replyLength) (o .reply)
 abbrev relayed : Outcome → List ℕ
 relayed o = take (o .answer .relayLength) (o .relay)
 
-abbrev truth : Bool → ℕ
+abbrev pub truth : Bool → ℕ
 truth b = if b then 1 else 0
 
 abbrev levelAt : Tables → ℕ → ℕ
 levelAt tables now = levelNow (bucketOf (tables .allowances) 0) now
 
 unfoldable pub examples : List Example
-unfolding computed random free leased joined withLevel exactly
+unfolding computed random free leased leasedForAnHour joined withLevel exactly
 examples =
     -- 1. Empty message: 6.
     row 1 (answered (step free (sends 100 0 []))) (6 ∷ [])
@@ -111,8 +124,9 @@ examples =
     ∷ row 4 (relayed (step joined (sends 100 0 (11 ∷ [])))) (12 ∷ [])
     -- 5. Candidate 0x04000001 is id 1.
     ∷ row 5 (candidate random 0 ∷ []) (1 ∷ [])
-    -- 6. Leased at 100: live at 3,699, not at 3,700.
-    ∷ row 6 (truth (live (leased .leases) 3699 0) ∷ truth (live (leased .leases) 3700 0) ∷ []) (1 ∷ 0 ∷ [])
+    -- 6. 02, Item 6: "restated for 600 and 3,600 seconds": leased at 100, live at 699, not at 700; at 3,699, not at 3,700.
+    ∷ row 6 (truth (live (leased .leases) 699 0) ∷ truth (live (leased .leases) 700 0) ∷ []) (1 ∷ 0 ∷ [])
+    ∷ row 6 (truth (live (leasedForAnHour .leases) 3699 0) ∷ truth (live (leasedForAnHour .leases) 3700 0) ∷ []) (1 ∷ 0 ∷ [])
     -- 7. Level 0 at 10: 196,608 at 13, 262,144 at 14 and at 15.
     ∷ row 7
     (levelAt (withLevel free 0 10) 13 ∷ levelAt (withLevel free 0 10) 14 ∷ levelAt (withLevel free 0 10) 15 ∷ [])
@@ -124,7 +138,7 @@ examples =
     -- 9. Reading 2^40 - 1 may pass, 2^40 is 2.
     ∷ row 9 (answered (step free (sends (2 ^ 40 - 1) 0 (13 ∷ []))) ++ answered (step free (sends (2 ^ 40) 0 (13 ∷ [])))) (0 ∷ 2 ∷ [])
     -- 10. The opening reply is 0,83,86,83,67,32,48,48,49,46,48,48,48.
-    ∷ row 10 (replied (step (fresh 100) (opening 100 0 buffer))) (0 ∷ 83 ∷ 86 ∷ 83 ∷ 67 ∷ 32 ∷ 48 ∷ 48 ∷ 49 ∷ 46 ∷ 48 ∷ 48 ∷ 48 ∷ [])
+    ∷ row 10 (replied (step (fresh 100 0) (opening 100 0 buffer))) (0 ∷ 83 ∷ 86 ∷ 83 ∷ 67 ∷ 32 ∷ 48 ∷ 48 ∷ 49 ∷ 46 ∷ 48 ∷ 48 ∷ 48 ∷ [])
     -- 11. Id 5 leased to nobody, caller free: 7,0,0,0,5,1.
     ∷ row 11 (replied (step leased (sends 100 0 (6 ∷ 0 ∷ 0 ∷ 0 ∷ 5 ∷ [])))) (7 ∷ 0 ∷ 0 ∷ 0 ∷ 5 ∷ 1 ∷ [])
     -- 12. Own id: 5 if free, 4 if in session.
@@ -141,7 +155,7 @@ spent = withLevel free 0 100
 
 unfoldable pub waiting : Tables
 unfolding computed
-waiting = after (fresh 100) (opening 100 0 buffer ∷ [])
+waiting = after (fresh 100 0) (opening 100 0 buffer ∷ [])
 
 -- check k applies to the call, and so does the next one: the answer is k
 abbrev both : ℕ → Tables → Call → Example

@@ -55,9 +55,9 @@ unfoldable pub explained : List Row
 unfolding computed random free leased joined withLevel candidates full asked decided headroom explain
 explained =
     -- Fresh at 100: an open has headroom 262,099.
-    row (fresh 100) (opening 100 0 buffer) 0 0 0 1 (pos 262099)
+    row (fresh 100 0) (opening 100 0 buffer) 0 0 0 1 (pos 262099)
     -- Level 20: an open is 25 short; level 10: a lease without cookie, which would be granted, is 62 short, and has decided nothing.
-    ∷ row (withLevel (fresh 100) 20 100) (opening 100 0 buffer) 9 0 0 1 (negsuc 24)
+    ∷ row (withLevel (fresh 100 0) 20 100) (opening 100 0 buffer) 9 0 0 1 (negsuc 24)
     ∷ row (withLevel free 10 100) (asks 0 eights (2 ∷ 0 ∷ [])) 9 0 0 1 (negsuc 61)
     -- A row held live by the caller, and the drawn cookie and every candidate live too: condition 1; the same for another caller of the
     -- partner: 3; with a new cookie: 4; all sixteen rows live: 2. What is left: opens of 45, answers of 34, a lease of 72; refused leases

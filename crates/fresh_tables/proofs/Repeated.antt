@@ -11,7 +11,7 @@ use Rattle.octets.proofs.Numbers.{length-bigEndian}
 use Rattle.octets.proofs.Stores.{put-behind, put-whole, put-none}
 use Rattle.allowance.specs.Bucket.{Bucket, capacity, full}
 use Rattle.rules.specs.Sizes.{partners, allowanceBytes, allowancesSize}
-use Rattle.rules.specs.Tables.{allowanceAt, updatedAt, records, bucketBytes, fresh}
+use Rattle.rules.specs.Tables.{updatedAt, termAt, namedTerm, records, bucketBytes, fresh}
 
 pub length-records : (n : ℕ) (row : List ℕ) → length (records n row) ≡ n * length row
 unfolding records
@@ -64,18 +64,17 @@ length-bucket : (b : Bucket) → length (bucketBytes b) ≡ allowanceBytes
 unfolding bucketBytes
 length-bucket b = simp (length-append, length-bigEndian)
 
--- the allowances: eight full ones, and the clock's
-pub allowances-filled : (al a₁ a₂ a₃ row₀ row₁ row : List ℕ) (time : ℕ) → length al ≡ allowancesSize → length row₀ ≡ allowanceBytes
-    → row₁ ≡ put row₀ 0 (bigEndian 8 capacity) → row ≡ put row₁ 8 (bigEndian 8 time)
-    → a₁ ≡ put al 0 (records partners row) → a₂ ≡ put a₁ (allowanceAt partners) (bigEndian 8 0) → a₃ ≡ put a₂ (updatedAt partners) (bigEndian 8 time) → a₃ ≡ fresh time .allowances
-unfolding fresh bucketBytes
-allowances-filled al a₁ a₂ a₃ row₀ row₁ row time l l₀ r₁ r₂ e₁ e₂ e₃ =
+-- the allowances: eight full ones, and behind them the term and the clock
+pub allowances-filled : (al a₁ a₂ a₃ row₀ row₁ row : List ℕ) (time term kept : ℕ) → length al ≡ allowancesSize → length row₀ ≡ allowanceBytes
+    → kept ≡ namedTerm term → row₁ ≡ put row₀ 0 (bigEndian 8 capacity) → row ≡ put row₁ 8 (bigEndian 8 time) → a₁ ≡ put al 0 (records partners row)
+    → a₂ ≡ put a₁ termAt (bigEndian 8 kept) → a₃ ≡ put a₂ (updatedAt partners) (bigEndian 8 time) → a₃ ≡ fresh time term .allowances
+unfolding fresh
+allowances-filled al a₁ a₂ a₃ row₀ row₁ row time term kept l l₀ named r₁ r₂ e₁ e₂ e₃ =
     let bucket : row ≡ bucketBytes (full time) = bucket-row capacity time row₀ row₁ row l₀ r₁ r₂ in
-    let rows : length (records partners (bucketBytes (full time))) ≡ allowanceAt partners = length-records partners (bucketBytes (full time)) ∙ rw (length-bucket (full time)) in
-    let last = bigEndian 8 0 ++ bigEndian 8 time in
-    let whole : length (records partners (bucketBytes (full time)) ++ (bigEndian 8 0 ++ bigEndian 8 time)) ≡ length al =
+    let rows : length (records partners (bucketBytes (full time))) ≡ termAt = length-records partners (bucketBytes (full time)) ∙ rw (length-bucket (full time)) in
+    let whole : length (records partners (bucketBytes (full time)) ++ (bigEndian 8 kept ++ bigEndian 8 time)) ≡ length al =
     simp (length-append, length-bigEndian, rows) (omega arith) in
-    rw (e₃, e₂, e₁, bucket)
-    (put-behind (put al 0 (records partners (bucketBytes (full time)))) (allowanceAt partners) 8 (bigEndian 8 0) (bigEndian 8 time) (length-bigEndian 8 0)
-    ∙ put-behind al 0 (allowanceAt partners) (records partners (bucketBytes (full time))) (bigEndian 8 0 ++ bigEndian 8 time) rows
-    ∙ put-whole al (records partners (bucketBytes (full time)) ++ (bigEndian 8 0 ++ bigEndian 8 time)) whole)
+    rw (← named, e₃, e₂, e₁, bucket)
+    (put-behind (put al 0 (records partners (bucketBytes (full time)))) termAt 8 (bigEndian 8 kept) (bigEndian 8 time) (length-bigEndian 8 kept)
+    ∙ put-behind al 0 termAt (records partners (bucketBytes (full time))) (bigEndian 8 kept ++ bigEndian 8 time) rows
+    ∙ put-whole al (records partners (bucketBytes (full time)) ++ (bigEndian 8 kept ++ bigEndian 8 time)) whole)

@@ -22,7 +22,7 @@ fn fill_records(table: &mut [u8], row: &[u8], count: usize)
 
 pub fn fresh_connections(connections: &mut [u8])
     requires { ⌜ length (now connections) ≡ connectionsSize ⌝ }
-    ensures { λ _. ⌜ ((t : ℕ) → now (connections .exit) ≡ fresh t .connections) ⌝ }
+    ensures { λ _. ⌜ ((t term : ℕ) → now (connections .exit) ≡ fresh t term .connections) ⌝ }
 {
     let mut row = [0u8; rules::CONNECTION_BYTES];
     row[rules::PEER_AT] = rules::NOBODY;
@@ -31,21 +31,22 @@ pub fn fresh_connections(connections: &mut [u8])
 
 pub fn fresh_leases(leases: &mut [u8])
     requires { ⌜ length (now leases) ≡ leasesSize ⌝ }
-    ensures { λ _. ⌜ ((t : ℕ) → now (leases .exit) ≡ fresh t .leases) ⌝ }
+    ensures { λ _. ⌜ ((t term : ℕ) → now (leases .exit) ≡ fresh t term .leases) ⌝ }
 {
     let mut row = [0u8; rules::LEASE_BYTES];
     row[rules::HOLDER_AT] = rules::NOBODY;
     fill_records(leases, &row, rules::ROW_COUNT);
 }
 
-pub fn fresh_allowances(allowances: &mut [u8], time: u64)
+pub fn fresh_allowances(allowances: &mut [u8], time: u64, term: u64)
     requires { ⌜ length (now allowances) ≡ allowancesSize ⌝ }
-    ensures { λ _. ⌜ now (allowances .exit) ≡ fresh time .allowances ⌝ }
+    ensures { λ _. ⌜ now (allowances .exit) ≡ fresh time term .allowances ⌝ }
 {
+    let kept = lease_terms::named(term);
     let mut row = [0u8; rules::ALLOWANCE_BYTES];
     octet_stores::write64(&mut row, 0, allowance::CAPACITY);
     octet_stores::write64(&mut row, rules::UPDATED_AT, time);
     fill_records(allowances, &row, rules::PARTNERS);
-    octet_stores::write64(allowances, rules::CLOCK_AT - rules::UPDATED_AT, 0);
+    octet_stores::write64(allowances, rules::TERM_AT, kept);
     octet_stores::write64(allowances, rules::CLOCK_AT, time);
 }

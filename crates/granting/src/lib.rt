@@ -34,12 +34,12 @@ pub fn grant(
     row: usize,
     id: u32,
 ) -> Answer
-    requires { ⌜ (Leasable (now leases) time c (now reply)) × (length (now random) ≡ randomBytes) × (row < rowCount) ⌝ }
+    requires { ⌜ (Leasable (now leases) (now allowances) time c (now reply)) × (length (now random) ≡ randomBytes) × (row < rowCount) ⌝ }
     ensures { λ r. ⌜ ((cs relay : List ℕ) → handled r cs (now (leases .exit)) (now (reply .exit)) relay
         ≡ applied (planLease (lent cs (now (leases .entry)) (now (allowances .entry))) time c
         (granted row id (randomCookie (now (random .entry))))) (now (reply .entry)) relay) ⌝ }
 {
-    let until = leases::lease_end(allowances, time);
+    let until = lease_terms::lease_end(allowances, time);
     let cookie = octets::part(random, 0, svsc::COOKIE);
     lease_writes::grant(leases, row, until, id, cookie, c);
     tell(reply, id, cookie, until)
@@ -54,11 +54,11 @@ pub fn renew(
     reply: &mut [u8],
     row: usize,
 ) -> Answer
-    requires { ⌜ (Leasable (now leases) time c (now reply)) × (row < rowCount) ⌝ }
+    requires { ⌜ (Leasable (now leases) (now allowances) time c (now reply)) × (row < rowCount) ⌝ }
     ensures { λ r. ⌜ ((cs relay : List ℕ) → handled r cs (now (leases .exit)) (now (reply .exit)) relay
         ≡ applied (planLease (lent cs (now (leases .entry)) (now (allowances .entry))) time c (renewed row)) (now (reply .entry)) relay) ⌝ }
 {
-    let until = leases::lease_end(allowances, time);
+    let until = lease_terms::lease_end(allowances, time);
     let id = lease_table::id_of(leases, row);
     let answer = tell(reply, id, lease_table::cookie_of(leases, row), until);
     lease_writes::renew(leases, row, until, c);

@@ -140,6 +140,6 @@ fresh-expiry r r< =
     ap number
     (rw (z, append-nil (records rowCount freshLease)) at (part-records freshLease [] 0 8 (lit≤ tt) rowCount r r<))
 
-pub distinct-fresh : (t now : ℕ) → DistinctIds (fresh t .leases) now
+pub distinct-fresh : (t term now : ℕ) → DistinctIds (fresh t term .leases) now
 unfolding live expiry fresh
-distinct-fresh t now r s r< s< h k e = absurd (omega (arith, ltb-true now _ h, fresh-expiry r r<))
+distinct-fresh t term now r s r< s< h k e = absurd (omega (arith, ltb-true now _ h, fresh-expiry r r<))

@@ -13,18 +13,18 @@ use Rattle.invariants.proofs.Ids.{run-distinct}
 use Rattle.invariants.proofs.Spare.{fresh-spare, run-spare}
 use Rattle.invariants.proofs.Timely.{run-in-time}
 
-module _ (lent : Tables) (now : ℕ) (e : start lent now .answer .number ≡ 0) where
+module _ (lent : Tables) (now term : ℕ) (e : start lent now term .answer .number ≡ 0) where
   abbrev made : Tables
-  made = start lent now .tables
+  made = start lent now term .tables
 
   -- Live ids stay distinct, at any time from the clock on.
   pub live-ids-distinct : (calls : List Call) (t : ℕ) → clock (after made calls .allowances) ≤ t → DistinctIds (after made calls .leases) t
-  live-ids-distinct calls t l = distinct-later _ _ t l (run-distinct calls made (rw (started-fresh lent now e) (distinct-fresh now _)))
+  live-ids-distinct calls t l = distinct-later _ _ t l (run-distinct calls made (rw (started-fresh lent now term e) (distinct-fresh now term _)))
 
   -- Bytes 3, 14 and 15 of every connection record and 13-15 of every lease row are zero.
   pub spare-bytes-zero : (calls : List Call) → SpareZero (after made calls)
-  spare-bytes-zero calls = run-spare calls made (rw (started-fresh lent now e) (fresh-spare now))
+  spare-bytes-zero calls = run-spare calls made (rw (started-fresh lent now term e) (fresh-spare now term))
 
   -- Byte 2 of every connection record is 0 or 1, and no stored time is after the clock: other values come from other tables.
   pub times-in-order : (calls : List Call) → InTime (after made calls)
-  times-in-order calls = rw (started-fresh lent now e) (run-in-time calls now)
+  times-in-order calls = rw (started-fresh lent now term e) (run-in-time calls now term)

@@ -263,21 +263,21 @@ run-spare (call ∷ calls) tables zs = run-spare calls (step tables call .tables
 
 -- ---- fresh tables
 
-pub fresh-spare : (now : ℕ) → SpareZero (fresh now)
-fresh-spare now = record { connections = λ i z. own i z (decLt (i / connectionBytes) connectionCount); leases = λ i l u. row i l u (decLt (i / leaseBytes) rowCount) }
+pub fresh-spare : (now term : ℕ) → SpareZero (fresh now term)
+fresh-spare now term = record { connections = λ i z. own i z (decLt (i / connectionBytes) connectionCount); leases = λ i l u. row i l u (decLt (i / leaseBytes) rowCount) }
   where
-    own : (i : ℕ) → IsSpare (i % connectionBytes) → Dec (i / connectionBytes < connectionCount) → byteAt (fresh now .connections) i ≡ 0
+    own : (i : ℕ) → IsSpare (i % connectionBytes) → Dec (i / connectionBytes < connectionCount) → byteAt (fresh now term .connections) i ≡ 0
     own i z (yes h) =
         let l = low i z in
         let u = high i z in
         let e : connectionAt (i / connectionBytes) + i % connectionBytes ≡ i = omega arith in
         let j = i % connectionBytes in
-        (rw e at (fresh-connection now (i / connectionBytes) h j (omega arith)))
+        (rw e at (fresh-connection now term (i / connectionBytes) h j (omega arith)))
         ∙ rw (ne-eqb j 0 (λ z. omega arith), ne-eqb j 1 (λ z. omega arith))
-    own i z (no h) = byte-past (fresh now .connections) i (omega (arith, fresh-sizes now .connections))
+    own i z (no h) = byte-past (fresh now term .connections) i (omega (arith, fresh-sizes now term .connections))
 
-    row : (i : ℕ) → 13 ≤ i % leaseBytes → i % leaseBytes < 16 → Dec (i / leaseBytes < rowCount) → byteAt (fresh now .leases) i ≡ 0
+    row : (i : ℕ) → 13 ≤ i % leaseBytes → i % leaseBytes < 16 → Dec (i / leaseBytes < rowCount) → byteAt (fresh now term .leases) i ≡ 0
     row i l u (yes h) =
         let e : leaseAt (i / leaseBytes) + i % leaseBytes ≡ i = omega arith in
-        (rw e at (fresh-row now (i / leaseBytes) h (i % leaseBytes) (omega arith))) ∙ rw (ne-eqb (i % leaseBytes) 12 (λ z. omega arith))
-    row i l u (no h) = byte-past (fresh now .leases) i (omega (arith, fresh-sizes now .leases))
+        (rw e at (fresh-row now term (i / leaseBytes) h (i % leaseBytes) (omega arith))) ∙ rw (ne-eqb (i % leaseBytes) 12 (λ z. omega arith))
+    row i l u (no h) = byte-past (fresh now term .leases) i (omega (arith, fresh-sizes now term .leases))

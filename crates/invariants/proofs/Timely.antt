@@ -243,16 +243,16 @@ run-timely [] tables t = t
 run-timely (call ∷ calls) tables t = run-timely calls (step tables call .tables) (step-timely tables call t)
 
 -- in fresh tables all of these are zero
-fresh-timely : (now then : ℕ) → Timely then (fresh now .connections)
+fresh-timely : (now term then : ℕ) → Timely then (fresh now term .connections)
 unfolding lastSent keepaliveSent
-fresh-timely now then = record {
-  size = fresh-sizes now .connections;
-  unanswered = λ c k. omega (arith, fresh-connection now c k 2 (lit≤ tt));
-  last-sent = λ c k. omega (arith, zero-time (fresh now .connections) c 4 (fresh-whole now c k) (lit≤ tt) (unfold part in refl));
-  keepalive-sent = λ c k. omega (arith, zero-time (fresh now .connections) c 9 (fresh-whole now c k) (lit≤ tt) (unfold part in refl));
+fresh-timely now term then = record {
+  size = fresh-sizes now term .connections;
+  unanswered = λ c k. omega (arith, fresh-connection now term c k 2 (lit≤ tt));
+  last-sent = λ c k. omega (arith, zero-time (fresh now term .connections) c 4 (fresh-whole now term c k) (lit≤ tt) (unfold part in refl));
+  keepalive-sent = λ c k. omega (arith, zero-time (fresh now term .connections) c 9 (fresh-whole now term c k) (lit≤ tt) (unfold part in refl));
 }
 
-pub run-in-time : (calls : List Call) (now : ℕ) → InTime (after (fresh now) calls)
-run-in-time calls now =
-    let t = run-timely calls (fresh now) (fresh-timely now _) in
+pub run-in-time : (calls : List Call) (now term : ℕ) → InTime (after (fresh now term) calls)
+run-in-time calls now term =
+    let t = run-timely calls (fresh now term) (fresh-timely now term _) in
     record { unanswered = t .unanswered; last-sent = t .last-sent; keepalive-sent = t .keepalive-sent }

@@ -70,7 +70,7 @@ attends now = keepalive now 0 buffer buffer
 -- opened at 1,000; then two connections in session, all of it at 1,000
 unfoldable pub awaits : Tables
 unfolding computed
-awaits = after (fresh 1000) (opening 1000 0 buffer ∷ [])
+awaits = after (fresh 1000 0) (opening 1000 0 buffer ∷ [])
 
 unfoldable pub both : Tables
 unfolding computed random awaits
@@ -110,9 +110,9 @@ with unanswered sent keepaliveSent = record {
 unfoldable pub old : Tables
 unfolding computed
 old = record {
-  connections = setState (fresh 0 .connections) 0 opened;
-  leases = fresh 0 .leases;
-  allowances = fresh 0 .allowances;
+  connections = setState (fresh 0 0 .connections) 0 opened;
+  leases = fresh 0 0 .leases;
+  allowances = fresh 0 0 .allowances;
 }
 
 abbrev at : Tables → ℕ → List ℕ

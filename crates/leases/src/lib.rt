@@ -1,12 +1,12 @@
-// Leases: the id of a new one, what decides a request, and when a lease ends.
+// Leases: the id of a new one, and what decides a request.
 // Tables and random bytes of the right size, and numbers in range, are required: the relay's checks 1, 2, 3 and 5 come before anything here
 // is called, and no answer would serve where they fail.
 ghost use mathlib.Core.Path.{_≡_};
 ghost use mathlib.Core.List.{List};
 ghost use Prim.Native.Nat.{ℕ, _<_};
 ghost use lib.ListN.{length};
-ghost use Rattle.rules.specs.Sizes.{partners, connectionCount, leasesSize, timeLimit, candidateCount, randomBytes};
-ghost use Rattle.rules.specs.Leases.{leaseEnd, candidate, randomCookie, renewOrGrant, decideLease};
+ghost use Rattle.rules.specs.Sizes.{partners, connectionCount, leasesSize, candidateCount, randomBytes};
+ghost use Rattle.rules.specs.Leases.{candidate, randomCookie, renewOrGrant, decideLease};
 ghost use Rattle.leases.specs.Leases.{freeId, foundId, meaning};
 
 // The first free candidate's id, or that none is free.
@@ -101,12 +101,4 @@ pub fn decide_lease(
         FreeId::At(id) => renew_or_grant(connections, leases, time, partner, cookie, row, id),
         FreeId::Nothing => LeaseDecision::NoFreeId,
     }
-}
-
-// When a lease that is given, renewed or extended at a time ends. The allowance table is not read.
-pub fn lease_end(allowances: &[u8], time: u64) -> u64
-    requires { ⌜ time < timeLimit ⌝ }
-    ensures { λ r. ⌜ r ≡ leaseEnd (now (allowances .entry)) time ⌝ }
-{
-    time + rules::LEASE_TERM
 }

@@ -17,6 +17,7 @@ use Rattle.rules.specs.Tables.{lent, partnerOf, setExpiry}
 use Rattle.rules.specs.Searches.{endRow}
 use Rattle.rules.specs.Leases.{leaseEnd}
 use Rattle.rules.specs.Plans.{planLease, planExtension, refuseLease}
+use Rattle.rules.proofs.Terms.{term-most}
 use Rattle.leases.proofs.LeaseDecision.{the-type}
 use Rattle.leases.specs.Leases.{meaning}
 use Rattle.leasing.specs.Asked.{InRows}
@@ -28,7 +29,7 @@ use Rattle.answers.specs.Applied.{Handled, handled, applied, coded, replied}
 
 pub until-below : (al : List ℕ) (time : ℕ) → time < timeLimit → leaseEnd al time < 2 ^ 64
 unfolding leaseEnd
-until-below al time h = omega arith
+until-below al time h = omega (arith, term-most al)
 
 pub extension-ranges : (until : ℕ) → until < 2 ^ 64 → wellFormed (ExtensionGranted until) ≡ true
 unfolding wellFormed

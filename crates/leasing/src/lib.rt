@@ -24,7 +24,7 @@ pub fn lease(
     random: &[u8],
     reply: &mut [u8],
 ) -> Answer
-    requires { ⌜ (Leasable (now leases) time c (now reply)) × (length (now random) ≡ randomBytes)
+    requires { ⌜ (Leasable (now leases) (now allowances) time c (now reply)) × (length (now random) ≡ randomBytes)
         × (InRows (meaning decision (now random))) ⌝ }
     ensures { λ r. ⌜ ((cs relay : List ℕ) → handled r cs (now (leases .exit)) (now (reply .exit)) relay
         ≡ applied (planLease (lent cs (now (leases .entry)) (now (allowances .entry))) time c (meaning decision (now (random .entry))))
@@ -55,12 +55,12 @@ pub fn extend(
     row: usize,
     reply: &mut [u8],
 ) -> Answer
-    requires { ⌜ Leasable (now leases) time c (now reply) ⌝ }
+    requires { ⌜ Leasable (now leases) (now allowances) time c (now reply) ⌝ }
     ensures { λ r. ⌜ ((cs relay : List ℕ) → handled r cs (now (leases .exit)) (now (reply .exit)) relay
         ≡ applied (planExtension (lent cs (now (leases .entry)) (now (allowances .entry))) time c row) (now (reply .entry)) relay) ⌝ }
 {
     if row < lease_table::end_row(lease_table::partner_of(c)) {
-        let until = leases::lease_end(allowances, time);
+        let until = lease_terms::lease_end(allowances, time);
         lease_writes::extend(leases, row, until);
         let sent = svsc_lease_writers::svsc_write_extension_granted(reply, until);
         return answers::replied(sent.length as u32);

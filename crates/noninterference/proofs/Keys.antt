@@ -41,6 +41,7 @@ module _ (a b : Tables) (call : Call) (same : SameButKeys a b) where
     elsewhere = λ r o. rw (same .leases);
     allowance = rw (same .allowances);
     clocks = rw (same .allowances);
+    terms = rw (same .allowances);
   }
 
   pub keys-not-read : SameTold (step a call) (step b call) × SameButKeys (step a call .tables) (step b call .tables)

@@ -1,5 +1,5 @@
--- "Neighbours share two things only: ids already live, and the clock": a call that finds its partner's records, the others' live ids and the
--- clock the same gives the same answer and buffers, and leaves its partner's records the same. Assumes nothing.
+-- "Neighbours share two things only: ids already live, and the clock": a call that finds its partner's records, the others' live ids, the
+-- clock and the term the same gives the same answer and buffers, and leaves its partner's records the same. Assumes nothing.
 use Prim.Native.Nat.{ℕ, zero, suc, _+_, _/_, _≤_, _<_}
 use mathlib.Core.Path.{_≡_, refl, sym, ap, ap₂, _∙_}
 use mathlib.Core.Logic.{_≢_}
@@ -13,7 +13,7 @@ use Rattle.octets.specs.Octets.{number, numberAt}
 use Rattle.octets.proofs.Tests.{both-left, both-right}
 use Rattle.rules.specs.Sizes.{rowCount, connectionBytes, leaseBytes, allowanceBytes}
 use Rattle.rules.specs.Searches.{anyFrom}
-use Rattle.rules.specs.Tables.{Tables, partnerOf, ownerOf, allowanceAt, idOf, liveWithId, bucketOf, clock}
+use Rattle.rules.specs.Tables.{Tables, partnerOf, ownerOf, allowanceAt, idOf, liveWithId, bucketOf, clock, leaseTerm}
 use Rattle.rules.specs.Leases.{idTaken, hasItsId, idElsewhere}
 use Rattle.rules.specs.Calls.{Call, timeOf, callerOf}
 use Rattle.rules.specs.Charges.{charged, price, charge}
@@ -28,6 +28,7 @@ use Rattle.noninterference.proofs.Reading.{by-both, InLeases, id-same, 
 use Rattle.noninterference.proofs.SamePlans.{Alike, check-same, plan-same, price-same, sends-same}
 use Rattle.rules.proofs.Answers.{answer-is-check}
 use Rattle.rules.proofs.Metered.{clock-takes-time}
+use Rattle.rules.proofs.Terms.{term-kept}
 
 bucket-same : (al bl : List ℕ) (p : ℕ) → allowanceRecord al p ≡ allowanceRecord bl p → bucketOf al p ≡ bucketOf bl p
 unfolding bucketOf numberAt
@@ -41,6 +42,11 @@ bucket-same al bl p e =
 clocked : (tables : Tables) (call : Call) → check tables call ≡ 0 → clock (outcome 0 tables call .tables .allowances) ≡ timeOf call
 unfolding step
 clocked tables call e = rw e at (clock-takes-time tables call (answer-is-check tables call ∙ e))
+
+-- no call writes the term
+kept : (tables : Tables) (call : Call) → check tables call ≡ 0 → leaseTerm (outcome 0 tables call .tables .allowances) ≡ leaseTerm (tables .allowances)
+unfolding step
+kept tables call e = rw e at (term-kept tables call)
 
 -- ---- ids already live
 
@@ -113,6 +119,7 @@ module _ (a b : Tables) (call : Call) (read : SameToRead (callerOf call) (timeOf
     elsewhere = elsewhere-same;
     allowance = bucket-same _ _ (callerOf call) (read .own .allowances (callerOf call) refl);
     clocks = read .clocks;
+    terms = read .terms;
   }
 
   charge-same : (amount : ℕ) → SameAt InAllowances (charge (a .allowances) call amount) (charge (b .allowances) call amount)
@@ -136,9 +143,11 @@ module _ (a b : Tables) (call : Call) (read : SameToRead (callerOf call) (timeOf
               allowances = bytes-to-records allowanceBytes (lit≤ tt) Own (same-put (rw (← price-same alike) (charge-same (price a call))) _ _);
             };
             clocks = clocked a call e ∙ sym (clocked b call (sym (check-same alike) ∙ e));
+            terms = kept a call e ∙ read .terms ∙ sym (kept b call (sym (check-same alike) ∙ e));
           }
       go (suc n) e = record {
         told = record { answer = refl; reply = refl; relay = refl };
         own = read .own;
         clocks = read .clocks;
+        terms = read .terms;
       }

@@ -11,7 +11,7 @@ use Rattle.octets.specs.Octets.{if_then_else_}
 use Rattle.svsc.specs.Messages.{Message, ProtocolVersion, VersionAnswer, LeaseRequest, LeaseRequestWithCookie, LeaseRefused, LeaseGranted, ExtensionRequest, ExtensionRefused, ExtensionGranted, EstablishRequest, EstablishRefused, Established, EstablishNotification, SessionEnd, SessionEndNotification, DataSend, DataReceive, Keepalive, decode}
 use Rattle.rules.specs.Sizes.{rowsPerPartner}
 use Rattle.rules.specs.Searches.{firstRow, endRow}
-use Rattle.rules.specs.Tables.{Tables, partnerOf, ownerOf, connectionAt, keysAt, bucketOf, clock, sized, peer, hasSession}
+use Rattle.rules.specs.Tables.{Tables, partnerOf, ownerOf, connectionAt, keysAt, bucketOf, clock, leaseTerm, sized, peer, hasSession}
 use Rattle.rules.specs.Leases.{LeaseDecision, holdsLease, noSpareRow, cookieInUse, noFreeId, renewed, granted, firstFree, idTaken, idElsewhere, decideLease, leaseEnd, grant, renew, rowToExtend, release}
 use Rattle.rules.specs.Sessions.{EstablishDecision, refusedWith, establishedWith, decideEstablish, clear, await, join, leave, endSession, establish}
 use Rattle.rules.specs.Decisions.{decideMessage}
@@ -256,6 +256,7 @@ pub record Alike (Q P : ℕ → Type 0) (a b : Tables) (call : Call) : Type 0 wh
   pub elsewhere : (r : ℕ) → Q (ownerOf r) → idElsewhere (a .leases) (timeOf call) r ≡ idElsewhere (b .leases) (timeOf call) r
   pub allowance : bucketOf (a .allowances) (callerOf call) ≡ bucketOf (b .allowances) (callerOf call)
   pub clocks : clock (a .allowances) ≡ clock (b .allowances)
+  pub terms : leaseTerm (a .allowances) ≡ leaseTerm (b .allowances)
 
 module _ {Q P : ℕ → Type 0} {a b : Tables} {call : Call} (x : Alike Q P a b call) where
   open Tables a using (connections as cs, leases as ls, allowances as al)
@@ -267,7 +268,7 @@ module _ {Q P : ℕ → Type 0} {a b : Tables} {call : Call} (x : Alike Q P a b 
 
   end-same : (now : ℕ) → leaseEnd al now ≡ leaseEnd bl now
   unfolding leaseEnd
-  end-same now = refl
+  end-same now = rw (x .terms)
 
   sized-same : sized a ≡ sized b
   unfolding sized

@@ -1,4 +1,5 @@
--- What a call reads, as a statement about two tables. 01: "Neighbours share two things only: ids already live, and the clock."
+-- What a call reads, as a statement about two tables. 01: "Neighbours share two things only: ids already live, and the clock." The term is of the
+-- whole relay, and no call writes it.
 use Prim.Native.Nat.{ℕ, _%_, _<_}
 use mathlib.Core.Path.{_≡_}
 use mathlib.Core.Bool.{Bool, not, _&&_}
@@ -8,7 +9,7 @@ use lib.ListN.{length}
 use Rattle.octets.specs.Octets.{part}
 use Rattle.rules.specs.Sizes.{rowCount, connectionBytes, allowanceBytes}
 use Rattle.rules.specs.Searches.{anyFrom}
-use Rattle.rules.specs.Tables.{Tables, partnerOf, ownerOf, allowanceAt, liveWithId, clock}
+use Rattle.rules.specs.Tables.{Tables, partnerOf, ownerOf, allowanceAt, liveWithId, clock, leaseTerm}
 use Rattle.rules.specs.Calls.{Outcome}
 use Rattle.rules.specs.Bytes.{SameAt, connectionRecord, leaseRecord}
 
@@ -30,13 +31,14 @@ pub record SameSizes (a b : Tables) : Type 0 where
 unfoldable pub liveUnderOthers : List ℕ → ℕ → ℕ → ℕ → Bool
 liveUnderOthers ls now p id = anyFrom (λ r. not (eqb (ownerOf r) p) && liveWithId ls now id r) 0 rowCount
 
--- two tables that a call of partner p, at a time, can't tell apart: its own records, "ids already live, and the clock". The ids are those of
+-- two tables that a call of partner p, at a time, can't tell apart: its own records, "ids already live, and the clock", and the term. The ids are those of
 -- the others' rows: whether another row has the id of an own live one decides on a renewal.
 pub record SameToRead (p now : ℕ) (a b : Tables) : Type 0 where
   pub sizes : SameSizes a b
   pub own : SameRecords (λ q. q ≡ p) a b
   pub live-ids : (id : ℕ) → liveUnderOthers (a .leases) now p id ≡ liveUnderOthers (b .leases) now p id
   pub clocks : clock (a .allowances) ≡ clock (b .allowances)
+  pub terms : leaseTerm (a .allowances) ≡ leaseTerm (b .allowances)
 
 -- the same answer, and the same bytes in both buffers
 pub record SameTold (a b : Outcome) : Type 0 where
@@ -49,6 +51,7 @@ pub record SameToCaller (p : ℕ) (a b : Outcome) : Type 0 where
   pub told : SameTold a b
   pub own : SameRecords (λ q. q ≡ p) (a .tables) (b .tables)
   pub clocks : clock (a .tables .allowances) ≡ clock (b .tables .allowances)
+  pub terms : leaseTerm (a .tables .allowances) ≡ leaseTerm (b .tables .allowances)
 
 -- ---- session-ids, peer-ids and peer-keys
 

@@ -39,7 +39,7 @@ costs tables call n = row (told tables call (step tables call)) (0 ∷ n ∷ n �
 -- connection 0 awaits its version answer
 unfoldable pub waiting : Tables
 unfolding computed
-waiting = after (fresh 100) (opening 100 0 buffer ∷ [])
+waiting = after (fresh 100 0) (opening 100 0 buffer ∷ [])
 
 -- the cookie of the lease of connection 0 (`leased`), and another
 abbrev nines : List ℕ
@@ -53,7 +53,7 @@ eights = replicate 24 8
 unfoldable pub opens : List Example
 unfolding computed random waiting
 opens =
-    costs (fresh 100) (opening 100 0 buffer) 45
+    costs (fresh 100 0) (opening 100 0 buffer) 45
     -- type 1, ok 1 and ok 0
     ∷ costs waiting (sends 100 0 (1 ∷ 1 ∷ [])) 34
     ∷ costs waiting (sends 100 0 (1 ∷ 0 ∷ [])) 34
@@ -131,7 +131,7 @@ unfoldable pub early : Tables
 unfolding computed random
 early =
     after
-    (fresh 10)
+    (fresh 10 0)
     (opening 10 0 buffer
     ∷ sends 10 0 (1 ∷ 1 ∷ [])
     ∷ opening 10 1 buffer

@@ -16,7 +16,7 @@ use Rattle.allowance.specs.Bucket.{levelNow}
 use Rattle.rules.specs.Calls.{Call, opening, closing, keepalive, timeOf, connectionOf}
 use Rattle.rules.specs.Charges.{price, callerLevel}
 use Rattle.rules.proofs.Prices.{prices}
-use Rattle.rules.specs.Checks.{wrongSize, unknownConnection, wrongTime, wrongState, wrongLengths, notFromPeer, notPermitted, noSession, aboveLevel, pastLimit, firstApplying, firstEight, checks, check, checkStart}
+use Rattle.rules.specs.Checks.{wrongSize, unknownConnection, wrongTime, wrongState, wrongLengths, notFromPeer, notPermitted, noSession, aboveLevel, pastLimit, firstApplying, firstEight, checks, check, wrongTerm, checkStart}
 use Rattle.refusals.specs.Passed.{firstThree, Sized, Payable}
 
 -- ---- a list in two parts
@@ -83,22 +83,26 @@ module _ (tables : Tables) (time c k : ℕ) (e : k ≡ firstThree tables time c)
 
 -- ---- a fresh start
 
-module _ (tables : Tables) (time : ℕ) (s : Bool) (hs : s ≡ sized tables) where
-  pub start-wrong-size : not s ≡ true → 1 ≡ checkStart tables time
+module _ (tables : Tables) (time term : ℕ) (s : Bool) (hs : s ≡ sized tables) where
+  pub start-wrong-size : not s ≡ true → 1 ≡ checkStart tables time term
   unfolding checkStart firstApplying
   start-wrong-size h = rw (← hs, h)
 
-  pub start-wrong-time : not s ≡ false → timeLimit ≤ time → 2 ≡ checkStart tables time
+  pub start-wrong-time : not s ≡ false → timeLimit ≤ time → 2 ≡ checkStart tables time term
   unfolding checkStart firstApplying
   start-wrong-time h l = rw (← hs, h, le-leb timeLimit time l)
 
-  pub start-passes : not s ≡ false → time < timeLimit → 0 ≡ checkStart tables time
+  pub start-wrong-term : not s ≡ false → time < timeLimit → wrongTerm term ≡ true → 6 ≡ checkStart tables time term
   unfolding checkStart firstApplying
-  start-passes h l = rw (← hs, h, lt-leb timeLimit time l)
+  start-wrong-term h l t = rw (← hs, h, lt-leb timeLimit time l, t)
 
-pub start-sized : (tables : Tables) (time k : ℕ) → k ≡ checkStart tables time → k ≡ 0 → Sized tables
+  pub start-passes : not s ≡ false → time < timeLimit → wrongTerm term ≡ false → 0 ≡ checkStart tables time term
+  unfolding checkStart firstApplying
+  start-passes h l t = rw (← hs, h, lt-leb timeLimit time l, t)
+
+pub start-sized : (tables : Tables) (time term k : ℕ) → k ≡ checkStart tables time term → k ≡ 0 → Sized tables
 unfolding checkStart
-start-sized tables time k e z = sizes-known tables (not-false _ (first-passed 0 _ _ (sym e ∙ z)))
+start-sized tables time term k e z = sizes-known tables (not-false _ (first-passed 0 _ _ (sym e ∙ z)))
 
 -- ---- any call on a connection: its first three checks, then the others
 

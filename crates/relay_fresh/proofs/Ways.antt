@@ -10,16 +10,16 @@ use Rattle.answers.specs.declared.Answer.{Answer}
 use Rattle.answers.specs.Results.{result, shown}
 use Rattle.answers.specs.Applied.{coded}
 
-module _ (tables : Tables) (time k : ℕ) (e : k ≡ checkStart tables time) where
-  pub start-refused : (k ≡ 0 → ⊥) → (r : Answer) → r ≡ coded (refusal k) → result r tables [] [] ≡ shown (start tables time)
+module _ (tables : Tables) (time term k : ℕ) (e : k ≡ checkStart tables time term) where
+  pub start-refused : (k ≡ 0 → ⊥) → (r : Answer) → r ≡ coded (refusal k) → result r tables [] [] ≡ shown (start tables time term)
   unfolding start
   start-refused h r a = rw (← e, a) (by k h)
     where
-      by : (k : ℕ) → (k ≡ 0 → ⊥) → result (coded (refusal k)) tables [] [] ≡ shown (started k tables time)
+      by : (k : ℕ) → (k ≡ 0 → ⊥) → result (coded (refusal k)) tables [] [] ≡ shown (started k tables time term)
       by zero h = absurd (h refl)
       by (suc n) h = refl
 
-  pub start-done : k ≡ 0 → (r : Answer) (cs ls al : List ℕ) → r ≡ coded (sentNothing 0) → cs ≡ fresh time .connections → ls ≡ fresh time .leases
-      → al ≡ fresh time .allowances → result r (lent cs ls al) [] [] ≡ shown (start tables time)
+  pub start-done : k ≡ 0 → (r : Answer) (cs ls al : List ℕ) → r ≡ coded (sentNothing 0) → cs ≡ fresh time term .connections → ls ≡ fresh time term .leases
+      → al ≡ fresh time term .allowances → result r (lent cs ls al) [] [] ≡ shown (start tables time term)
   unfolding start
-  start-done z r cs ls al a c l m = rw (a, c, l, m) (ap (λ (n : ℕ). shown (started n tables time)) (sym z ∙ e))
+  start-done z r cs ls al a c l m = rw (a, c, l, m) (ap (λ (n : ℕ). shown (started n tables time term)) (sym z ∙ e))

@@ -60,7 +60,7 @@ module _
     unfolding notFromPeer
     from-peer = not-false _ (sent-by-peer tables sent _ e z)
 
-    pub admitted : Admitted ls time c m random reply relay
+    pub admitted : Admitted ls al time c m random reply relay
     unfolding wrongLengths
     admitted =
         let sizes = either-false _ _ fits in
@@ -68,6 +68,7 @@ module _
         let small = either-false _ _ (sizes .0) in
         record {
           size = call-sized tables sent _ e z .leases;
+          allowances = call-sized tables sent _ e z .allowances;
           known = call-known tables sent _ e z;
           timely = call-timely tables sent _ e z;
           random-size = eqb-true _ _ (not-false _ (small .0));

@@ -12,7 +12,7 @@ use Rattle.rules.specs.Calls.{Call, message, closing, Outcome}
 use Rattle.rules.specs.Step.{step}
 use Rattle.rules.specs.Runs.{after}
 use Rattle.examples.specs.Computed.{computed}
-use Rattle.examples.specs.Examples.{random, free}
+use Rattle.examples.specs.Examples.{random, freeWith}
 
 pub record Renewal : Type 0 where
   pub given : List ℕ
@@ -44,6 +44,11 @@ second = replicate 24 8 ++ (bigEndian 4 5 ++ replicate 52 3)
 
 abbrev asksAt : ℕ → Call
 asksAt now = message now 1 (2 ∷ 1 ∷ kept) second buffer buffer
+
+-- of a relay with leases of an hour
+unfoldable pub free : Tables
+unfolding computed random freeWith
+free = freeWith 3600
 
 unfoldable pub held : Tables
 unfolding computed random free first
@@ -87,7 +92,7 @@ other ls r until id = grant ls r until id (replicate 24 4) nobody
 
 unfoldable pub rows : List ℕ
 unfolding computed
-rows = fresh 100 .leases
+rows = fresh 100 3600 .leases
 
 -- row 0 (K, expiry 50, id 7), and id 7 in row 127 too
 unfoldable pub doubled : ℕ → List ℕ
@@ -141,7 +146,7 @@ renewals =
     -- "id 7, K, expiry 12,600, no other row touched"
     row (take (back .answer .replyLength) (back .reply)) (3 ∷ 1 ∷ 0 ∷ 0 ∷ 0 ∷ 7 ∷ kept ++ bigEndian 8 12600)
     ∷ row (take 40 (back .tables .leases)) (bigEndian 8 12600 ++ (0 ∷ 0 ∷ 0 ∷ 7 ∷ 1 ∷ 0 ∷ 0 ∷ 0 ∷ kept))
-    ∷ row (drop 40 (back .tables .leases)) (drop 40 (fresh 100 .leases))
+    ∷ row (drop 40 (back .tables .leases)) (drop 40 (fresh 100 3600 .leases))
     -- "The holder still open, asked by connection 1 at 300: a new row."
     ∷ row (take (beside .answer .replyLength) (beside .reply)) (3 ∷ 1 ∷ 0 ∷ 0 ∷ 0 ∷ 5 ∷ replicate 24 8 ++ bigEndian 8 3900)
     ∷ row (take 40 (beside .tables .leases)) (take 40 (held .leases))

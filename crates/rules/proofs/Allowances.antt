@@ -14,7 +14,7 @@ use Rattle.octets.proofs.Numbers.{length-bigEndian, number-bigEndian}
 use Rattle.octets.proofs.Stores.{length-put, put-append, numberAt-put, numberAt-before, numberAt-behind}
 use Rattle.allowance.specs.Bucket.{capacity, Bucket, full}
 use Rattle.rules.specs.Sizes.{partners, allowanceBytes, allowancesSize, timeLimit}
-use Rattle.rules.specs.Tables.{allowanceAt, updatedAt, bucketOf, clock, bucketBytes, setBucket, setClock, records, fresh}
+use Rattle.rules.specs.Tables.{allowanceAt, updatedAt, bucketOf, clock, storedTerm, namedTerm, bucketBytes, setBucket, setClock, records, fresh}
 
 -- A number that a cell of eight bytes holds.
 abbrev Cell : ℕ → Type 0
@@ -91,28 +91,32 @@ part-records r rest at n h (suc count) (suc k) l =
 in-cell : (now : ℕ) → now < timeLimit → Cell now
 in-cell now h = lt-of-lt-of-le h (lit≤ tt)
 
-module _ (now : ℕ) (h : now < timeLimit) where
+module _ (now term : ℕ) (h : now < timeLimit) where
   fresh-cell : (p at : ℕ) → p < partners → at + 8 ≤ allowanceBytes
-      → numberAt (fresh now .allowances) (allowanceAt p + at) 8 ≡ numberAt (bucketBytes (full now)) at 8
+      → numberAt (fresh now term .allowances) (allowanceAt p + at) 8 ≡ numberAt (bucketBytes (full now)) at 8
   unfolding fresh numberAt bucketBytes bigEndian
   fresh-cell p at p< l =
-      ap number (part-records (bucketBytes (full now)) (bucketBytes (record { level = 0; updated = now })) at 8 l partners p p<)
+      ap number (part-records (bucketBytes (full now)) (bigEndian 8 (namedTerm term) ++ bigEndian 8 now) at 8 l partners p p<)
 
-  fresh-level : (p : ℕ) → p < partners → numberAt (fresh now .allowances) (allowanceAt p) 8 ≡ capacity
+  fresh-level : (p : ℕ) → p < partners → numberAt (fresh now term .allowances) (allowanceAt p) 8 ≡ capacity
   unfolding numberAt bucketBytes bigEndian part
   fresh-level p p< =
-      ap (λ (at : ℕ). numberAt (fresh now .allowances) at 8) (sym (add-zero (allowanceAt p)))
+      ap (λ (at : ℕ). numberAt (fresh now term .allowances) at 8) (sym (add-zero (allowanceAt p)))
       ∙ fresh-cell p 0 p< (lit≤ tt)
       ∙ number-bigEndian 8 capacity (lit< tt)
 
-  fresh-updated : (p : ℕ) → p < partners → numberAt (fresh now .allowances) (updatedAt p) 8 ≡ now
+  fresh-updated : (p : ℕ) → p < partners → numberAt (fresh now term .allowances) (updatedAt p) 8 ≡ now
   unfolding numberAt bucketBytes bigEndian part
   fresh-updated p p< = fresh-cell p 8 p< (lit≤ tt) ∙ number-bigEndian 8 now (in-cell now h)
 
-  pub fresh-bucket : (p : ℕ) → p < partners → bucketOf (fresh now .allowances) p ≡ full now
+  pub fresh-bucket : (p : ℕ) → p < partners → bucketOf (fresh now term .allowances) p ≡ full now
   unfolding bucketOf
   fresh-bucket p p< = ap₂ (λ (l u : ℕ). record { level = l; updated = u }) (fresh-level p p<) (fresh-updated p p<)
 
-  pub fresh-clock : clock (fresh now .allowances) ≡ now
+  pub fresh-term : Cell (namedTerm term) → storedTerm (fresh now term .allowances) ≡ namedTerm term
+  unfolding storedTerm fresh numberAt records bucketBytes bigEndian part
+  fresh-term c = number-bigEndian 8 (namedTerm term) c
+
+  pub fresh-clock : clock (fresh now term .allowances) ≡ now
   unfolding clock fresh numberAt records bucketBytes bigEndian part
   fresh-clock = number-bigEndian 8 now (in-cell now h)

@@ -4,7 +4,7 @@ use mathlib.Core.Path.{_≡_, refl}
 use mathlib.Core.Logic.{_⊎_, inl, inr, ⊎-elim, _↔_}
 use mathlib.Core.Bool.{Bool, true, false, not, _&&_, _||_, true≢false, false≢true}
 use lib.Dec.{eqb, leb, ltb}
-use borrow.Author.Tests.{ltb-true, ltb-false, lt-ltb, leb-true, le-leb, eqb-true, eq-eqb}
+use borrow.Author.Tests.{ltb-true, ltb-false, lt-ltb, leb-true, leb-false, le-leb, eqb-true, eq-eqb}
 use Rattle.octets.proofs.Tests.{both-left, both-right}
 
 -- a test that would say what is not so
@@ -14,6 +14,9 @@ refuted false n = refl
 
 pub not-lt : {a b : ℕ} → (a < b → ⊥) → b ≤ a
 not-lt {a} {b} n = ltb-false a b (refuted (ltb a b) (λ e. n (ltb-true a b e)))
+
+pub not-le : {a b : ℕ} → (a ≤ b → ⊥) → b < a
+not-le {a} {b} n = leb-false a b (refuted (leb a b) (λ e. n (leb-true a b e)))
 
 pub eq-exactly : (a b : ℕ) → (eqb a b ≡ true) ↔ (a ≡ b)
 eq-exactly a b = (eqb-true a b, eq-eqb a b)

@@ -11,7 +11,7 @@ use Rattle.octets.specs.Octets.{if_then_else_, bigEndian, numberAt}
 use Rattle.allowance.specs.Bucket.{Bucket, levelNow}
 use Rattle.allowance.specs.History.{levelFromHistory, latest, NonePaid}
 use Rattle.rules.specs.Sizes.{partners, nobody}
-use Rattle.rules.specs.Tables.{Tables, allowanceAt, updatedAt, bucketBytes, setBucket, setClock, inSession, bucketOf, clock, fresh}
+use Rattle.rules.specs.Tables.{Tables, allowanceAt, updatedAt, bucketBytes, setBucket, setClock, inSession, bucketOf, clock, termAt, storedTerm, fresh}
 use Rattle.rules.specs.Calls.{Call, timeOf, connectionOf, callerOf, Outcome}
 use Rattle.rules.specs.Plans.{planCall, plan}
 use Rattle.rules.specs.Charges.{charged, received, price, charge}
@@ -34,25 +34,25 @@ use Rattle.rules.proofs.Sessions.{Relays, each-relays}
 
 -- ---- making a fresh relay
 
-module _ (tables : Tables) (now : ℕ) where
+module _ (tables : Tables) (now term : ℕ) where
   -- Answered with 0, the tables are fresh, and else as they were. (When it is answered with which number: Refusals.start-exactly.)
-  pub started-is-fresh : start tables now .answer .number ≡ 0 → start tables now .tables ≡ fresh now
-  started-is-fresh = started-fresh tables now
+  pub started-is-fresh : start tables now term .answer .number ≡ 0 → start tables now term .tables ≡ fresh now term
+  started-is-fresh = started-fresh tables now term
 
   -- It is lent no buffer, and has nothing for one.
-  pub start-sends-nothing : (start tables now .reply ≡ []) × (start tables now .relay ≡ [])
+  pub start-sends-nothing : (start tables now term .reply ≡ []) × (start tables now term .relay ≡ [])
   unfolding start
-  start-sends-nothing = go (checkStart tables now)
+  start-sends-nothing = go (checkStart tables now term)
     where
-      go : (k : ℕ) → (started k tables now .reply ≡ []) × (started k tables now .relay ≡ [])
+      go : (k : ℕ) → (started k tables now term .reply ≡ []) × (started k tables now term .relay ≡ [])
       go zero = (refl, refl)
       go (suc k) = (refl, refl)
 
-  pub refused-start-changes-nothing : start tables now .answer .number ≢ 0 → start tables now .tables ≡ tables
+  pub refused-start-changes-nothing : start tables now term .answer .number ≢ 0 → start tables now term .tables ≡ tables
   unfolding start
-  refused-start-changes-nothing n = go (checkStart tables now) n
+  refused-start-changes-nothing n = go (checkStart tables now term) n
     where
-      go : (k : ℕ) → started k tables now .answer .number ≢ 0 → started k tables now .tables ≡ tables
+      go : (k : ℕ) → started k tables now term .answer .number ≢ 0 → started k tables now term .tables ≡ tables
       go zero n = absurd (n refl)
       go (suc k) n = refl
 
@@ -108,16 +108,16 @@ module _ (tables : Tables) (call : Call) where
       go (yes e) = rw (is-done tables call e) (changed-both (at-record (charged call) _) at-clock)
       go (no m) = rw (refused-leaves-all tables call m) (same-refl (tables .allowances))
 
-  -- The ninth level stays what it was.
-  pub ninth-level-stays : numberAt (o .tables .allowances) (allowanceAt partners) 8 ≡ numberAt (tables .allowances) (allowanceAt partners) 8
-  ninth-level-stays = go (ℕ-discrete (o .answer .number) 0)
+  -- 02, Item 6: no call writes the term.
+  pub term-not-written : storedTerm (o .tables .allowances) ≡ storedTerm (tables .allowances)
+  unfolding storedTerm
+  term-not-written = go (ℕ-discrete (o .answer .number) 0)
     where
-      go : Dec (Accepted tables call)
-          → numberAt (o .tables .allowances) (allowanceAt partners) 8 ≡ numberAt (tables .allowances) (allowanceAt partners) 8
+      go : Dec (Accepted tables call) → numberAt (o .tables .allowances) termAt 8 ≡ numberAt (tables .allowances) termAt 8
       go (yes e) =
           let p< = passed tables call (done-passed tables call e) .of-partner in
           sym
-          (same-number own-allowance-only (allowanceAt partners) 8
+          (same-number own-allowance-only termAt 8
           (λ i l u. ⊎-elim (λ a. omega (arith, a .1)) (λ b. omega (arith, b .0))))
       go (no m) = rw (refused-leaves-all tables call m)
 
@@ -172,9 +172,9 @@ module _ (tables : Tables) (call : Call) where
 
 -- ---- runs, from a fresh start
 
-module _ (lent : Tables) (now : ℕ) (e : start lent now .answer .number ≡ 0) where
+module _ (lent : Tables) (now term : ℕ) (e : start lent now term .answer .number ≡ 0) where
   abbrev made : Tables
-  made = start lent now .tables
+  made = start lent now term .tables
 
   -- Demand 3 in the relay's words, three fields of `Claim`. Refused with 9 exactly when no check from 1 to 8 applies, the call is charged,
   -- and it costs more than the history before it leaves.
@@ -183,12 +183,12 @@ module _ (lent : Tables) (now : ℕ) (e : start lent now .answer .number ≡ 0) 
       ↔ ((precheck (after made before) call ≡ 0)
       × (charged call ≡ true)
       × (levelFromHistory (callerOf call) (timeOf call) (history made before) < price (after made before) call))
-  nine-exactly before call = relay-demand3 .every-run lent now e (before ++ (call ∷ [])) .refused-exactly before call [] refl
+  nine-exactly before call = relay-demand3 .every-run lent now term e (before ++ (call ∷ [])) .refused-exactly before call [] refl
 
   -- The level in the table is the level from history, at any time not below the latest.
   pub level-is : (calls : List Call) (p : ℕ) → p < partners → (t : ℕ) → latest now (history made calls) ≤ t
       → levelNow (bucketOf (after made calls .allowances) p) t ≡ levelFromHistory p t (history made calls)
-  level-is calls = relay-demand3 .every-run lent now e calls .level
+  level-is calls = relay-demand3 .every-run lent now term e calls .level
 
   -- Refused with 9 and with no accepted charged call since, a partner is not refused with 9 three seconds of clock later.
   pub not-nine-again : (before : List Call) (call : Call) (between : List Call) (again : Call)
@@ -198,4 +198,4 @@ module _ (lent : Tables) (now : ℕ) (e : start lent now .answer .number ≡ 0) 
       → timeOf call + 3 ≤ timeOf again
       → step (after made (before ++ (call ∷ between))) again .answer .number ≢ 9
   not-nine-again before call between again =
-      relay-demand3 .every-run lent now e (before ++ (call ∷ (between ++ (again ∷ [])))) .retry before call between again [] refl
+      relay-demand3 .every-run lent now term e (before ++ (call ∷ (between ++ (again ∷ [])))) .retry before call between again [] refl

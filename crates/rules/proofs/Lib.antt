@@ -1,5 +1,5 @@
 -- The laws of the rules. For readers: Sizes, Fresh, TableLaws; Refusals, Reasons; CallLaws, MessageLaws, Lookup, KeepaliveLaws, Leases, Marks, Room, Disconnects;
--- Laws; Charges, Demand3. The others serve these.
+-- Laws, Terms; Charges, Demand3. The others serve these.
 pub mod Sizes
 pub mod Searches
 pub mod Records
@@ -28,6 +28,7 @@ pub mod Demand3
 pub mod Refusals
 pub mod Reasons
 pub mod Laws
+pub mod Terms
 pub mod MessageLaws
 pub mod Lookup
 pub mod CallLaws

@@ -15,7 +15,7 @@ use Rattle.octets.proofs.Parts.{length-part}
 use Rattle.svsc.specs.Messages.{Message, cookieBytes, VersionAnswer, LeaseGranted, ExtensionRequest, ExtensionGranted, EstablishRequest, EstablishRefused, SessionEnd, DataSend, Keepalive, encode, typeOf, decode}
 use Rattle.rules.specs.Sizes.{connectionCount, rowCount, randomBytes}
 use Rattle.rules.specs.Searches.{endRow}
-use Rattle.rules.specs.Tables.{Tables, partnerOf, connectionAt, opened, state, peer, inSession, hasSession, setState, idOf, cookieAt, cookieOf}
+use Rattle.rules.specs.Tables.{Tables, leaseTerm, partnerOf, connectionAt, opened, state, peer, inSession, hasSession, setState, idOf, cookieAt, cookieOf}
 use Rattle.rules.specs.Leases.{LeaseDecision, holdsLease, noSpareRow, cookieInUse, noFreeId, renewed, granted, decideLease, leaseEnd, rowToExtend}
 use Rattle.rules.specs.Sessions.{refusedWith, establishedWith, decideEstablish, clear, establish, endSession}
 use Rattle.rules.specs.Keepalives.{stamp}
@@ -41,6 +41,7 @@ use Rattle.rules.proofs.Marks.{InMarks, changed-answered, session-kept,
 use Rattle.rules.proofs.Decisions.{is-renewed, is-granted, is-extended, is-established}
 use Rattle.rules.proofs.Leases.{extension-exactly, renewable-exactly}
 use Rattle.rules.proofs.Sessions.{establish-pairs, callers-record, holders-record, changed-establish}
+use Rattle.rules.proofs.Terms.{term-most}
 
 -- ---- plans that send to one side alone
 
@@ -218,12 +219,16 @@ module _
     lease-outcome t =
         is-done tables sent e ∙ ap (λ (x : Plan). done tables sent (marks x)) (lease-plan tables now c m random (from-peer tables now c m random reply relay h) t)
 
-    until< : now + 3600 < 256 ^ 8
-    until< = omega (arith, ok .in-limit)
+    -- how long leases last
+    abbrev term : ℕ
+    term = leaseTerm (tables .allowances)
 
-    -- A new lease is told as it stands in its row: id, cookie, this holder, and an hour from now.
+    until< : now + term < 256 ^ 8
+    until< = omega (arith, ok .in-limit, term-most (tables .allowances))
+
+    -- A new lease is told as it stands in its row: id, cookie, this holder, and the term from now.
     pub lease-told : typeOf m ≡ 2 → (row id : ℕ) (cookie : List ℕ) → decision ≡ granted row id cookie
-        → LeaseTold tables sent row (now + 3600) id cookie c o (encode (LeaseGranted id cookie (now + 3600)))
+        → LeaseTold tables sent row (now + term) id cookie c o (encode (LeaseGranted id cookie (now + term)))
     unfolding done planLease leaseEnd stamp
     lease-told t row id cookie d =
         let g = is-granted ls now c random cs (part m 2 24) row id cookie d in
@@ -232,23 +237,24 @@ module _
         rw (lease-outcome t, d)
         (record {
           sent = replied tables sent _ _ _;
-          written = granted-row ls row (now + 3600) id cookie c (ok .leases) row< until< (g .id-small) size;
-          others = changed-grant ls row (now + 3600) id cookie c (omega arith);
-          connections = own-marks cs now c (length (encode (LeaseGranted id cookie (now + 3600))));
+          written = granted-row ls row (now + term) id cookie c (ok .leases) row< until< (g .id-small) size;
+          others = changed-grant ls row (now + term) id cookie c (omega arith);
+          connections = own-marks cs now c (length (encode (LeaseGranted id cookie (now + term))));
         })
 
-    -- A renewed one is told with the id and the cookie that it had, and has this holder and an hour from now; nothing else of the lease table changes.
+    -- A renewed one is told with the id and the cookie that it had, and has this holder and the term from now; nothing else of the lease
+    -- table changes.
     pub lease-renewed : typeOf m ≡ 2 → (row : ℕ) → decision ≡ renewed row
-        → LeaseRenewed tables sent row (now + 3600) c o (encode (LeaseGranted (idOf ls row) (cookieOf ls row) (now + 3600)))
+        → LeaseRenewed tables sent row (now + term) c o (encode (LeaseGranted (idOf ls row) (cookieOf ls row) (now + term)))
     unfolding done planLease leaseEnd stamp
     lease-renewed t row d =
         let row< : row < rowCount = omega (arith, is-renewed ls now c random cs (part m 2 24) row d .own .high, ok .known) in
         rw (lease-outcome t, d)
         (record {
           sent = replied tables sent _ _ _;
-          written = renewed-row ls row (now + 3600) c (ok .leases) row< until<;
-          others = changed-renew ls row (now + 3600) c;
-          connections = own-marks cs now c (length (encode (LeaseGranted (idOf ls row) (cookieOf ls row) (now + 3600))));
+          written = renewed-row ls row (now + term) c (ok .leases) row< until<;
+          others = changed-renew ls row (now + term) c;
+          connections = own-marks cs now c (length (encode (LeaseGranted (idOf ls row) (cookieOf ls row) (now + term))));
         })
 
     -- A request without a cookie is not one for renewal: no row has a cookie of no bytes.
@@ -281,9 +287,9 @@ module _
         go (renewed row) n = absurd (true≢false n)
         go (granted row id cookie) n = absurd (true≢false n)
 
-    -- An extension for which there is a row gives it an hour from now, and says so.
+    -- An extension for which there is a row gives it the term from now, also where it had longer, and says so.
     pub extension-told : (cookie : List ℕ) → decode m ≡ some (ExtensionRequest cookie) → Extendable ls now c cookie
-        → ExtensionTold tables sent (rowToExtend ls now c cookie) (now + 3600) c o (encode (ExtensionGranted (now + 3600)))
+        → ExtensionTold tables sent (rowToExtend ls now c cookie) (now + term) c o (encode (ExtensionGranted (now + term)))
     unfolding done planMessage planDecided decideMessage planExtension leaseEnd stamp
     extension-told cookie d q =
         let found = extension-exactly ls now c cookie .1 q in
@@ -293,9 +299,9 @@ module _
         (outcome-of (ExtensionRequest cookie) d, found)
         (record {
           sent = replied tables sent _ _ _;
-          written = expiry-set ls (rowToExtend ls now c cookie) (now + 3600) (ok .leases) row< until<;
-          others = changed-expiry ls _ (now + 3600);
-          connections = own-marks cs now c (length (encode (ExtensionGranted (now + 3600))));
+          written = expiry-set ls (rowToExtend ls now c cookie) (now + term) (ok .leases) row< until<;
+          others = changed-expiry ls _ (now + term);
+          connections = own-marks cs now c (length (encode (ExtensionGranted (now + term))));
         })
 
     -- Otherwise extended 0, and no row changes.

@@ -2,25 +2,24 @@
 use Prim.Native.Nat.{ℕ, zero, suc, _+_, _-_, _≤_, _<_, max}
 use mathlib.Core.Path.{_≡_, refl, sym, ap, _∙_}
 use mathlib.Core.Logic.{⊎-elim, _↔_}
-use mathlib.Core.Bool.{Bool, true, false, not, true≢false, false≢true}
+use mathlib.Core.Bool.{Bool, true, false, not, _||_, true≢false, false≢true}
 use mathlib.Core.Option.{Option, none, some}
 use mathlib.Core.List.{List, [], _∷_, map}
 use native.Mathlib.Nat.{zero-add}
 use native.Mathlib.Omega.{arith}
-use native.Mathlib.Decide.{decLe}
-use lib.Dec.{leb}
+use lib.Dec.{eqb, leb}
 use lib.ListN.{length, getD}
 use borrow.Author.Tests.{eq-eqb, ne-eqb, not-true}
 use Rattle.octets.proofs.Tests.{by-test}
 use Rattle.svsc.specs.Messages.{Message, sentByPeers, typeOf, isSome, decode, fromPeer, typesIn}
 use Rattle.rules.specs.Sizes.{connectionCount, connectionsSize, leasesSize, allowancesSize, timeLimit, randomBytes, leastBuffer}
-use Rattle.rules.specs.Tables.{Tables, closed, state, inSession, hasSession, clock, sized}
+use Rattle.rules.specs.Tables.{Tables, closed, state, inSession, hasSession, clock, termInRange, sized}
 use Rattle.rules.specs.Calls.{Call, opening, message, closing, keepalive, timeOf, connectionOf, Answer}
 use Rattle.rules.specs.Charges.{price, callerLevel}
-use Rattle.rules.specs.Checks.{wrongTime, wrongState, wrongLengths, notFromPeer, permitted, permits, notPermitted, noSession, aboveLevel, firstEight, checks, firstApplying, check, checkStart}
+use Rattle.rules.specs.Checks.{wrongTime, wrongState, wrongLengths, notFromPeer, permitted, permits, notPermitted, noSession, aboveLevel, firstEight, checks, firstApplying, check, wrongTerm, checkStart}
 use Rattle.rules.specs.Step.{step, start, started}
-use Rattle.rules.specs.Refusals.{Applies, RightSizes, isOneOf, permittedTypes, InWrongState, OfWrongLengths, SentByPeer, NotSentByPeer, NotPermittedHere, WithoutSession, EachExactly, StartExactly}
-use Rattle.rules.proofs.Exactly.{eq-exactly, lt-exactly, le-exactly, not-exactly, and-exactly, or-exactly, false-exactly, never}
+use Rattle.rules.specs.Refusals.{Applies, RightSizes, isOneOf, permittedTypes, InWrongState, OfWrongLengths, SentByPeer, NotSentByPeer, NotPermittedHere, WithoutSession, EachExactly, MayBeNamed, StartExactly}
+use Rattle.rules.proofs.Exactly.{not-le, eq-exactly, lt-exactly, le-exactly, not-exactly, and-exactly, or-exactly, false-exactly, never}
 use Rattle.rules.proofs.Connections.{session-with}
 use Rattle.rules.proofs.Checks.{none-applies, all-pass, first-applies, applied-first, at-most}
 use Rattle.rules.proofs.Answers.{answer-is-check}
@@ -179,50 +178,63 @@ module _ (tables : Tables) (call : Call) where
 
 -- ---- making a fresh relay
 
-module _ (tables : Tables) (now : ℕ) where
-  -- what the two tests, of the sizes and of the time, come to
-  by-tests : (s t : Bool) → (s ≡ true) ↔ RightSizes tables → (t ≡ true) ↔ (timeLimit ≤ now) → (a : Answer)
-      → a .number ≡ firstApplying 1 (not s ∷ t ∷ [])
+-- a test that says no says that it is not so
+said-no : {A : Type 0} → (false ≡ true) ↔ A → A → ⊥
+said-no e x = false≢true (e .1 x)
+
+may-be-named : (term : ℕ) → (eqb term 0 || termInRange term ≡ true) ↔ MayBeNamed term
+unfolding termInRange
+may-be-named term = or-exactly _ _ (eq-exactly term 0) (and-exactly _ _ (le-exactly 600 term) (le-exactly term 86400))
+
+module _ (tables : Tables) (now term : ℕ) where
+  -- what the three tests, of the sizes, of the time and of the term, come to
+  by-tests : (s t u : Bool) → (s ≡ true) ↔ RightSizes tables → (t ≡ true) ↔ (timeLimit ≤ now) → (u ≡ true) ↔ MayBeNamed term → (a : Answer)
+      → a .number ≡ firstApplying 1 (not s ∷ t ∷ false ∷ false ∷ false ∷ not u ∷ [])
       → a ≡ record { number = a .number; replyLength = 0; relayLength = 0; destination = 255; disconnect = false }
-      → StartExactly tables now a
-  unfolding firstApplying
-  by-tests false t right late a e sent = record {
-    done = ((λ z. absurd (omega arith)), (λ q. absurd (false≢true (right .1 (q .0)))));
-    one = ((λ z q. false≢true (right .1 q)), (λ n. e));
-    two = ((λ z. absurd (omega arith)), (λ q. absurd (false≢true (right .1 (q .0)))));
-    at-most = omega arith;
+      → StartExactly tables now term a
+  unfolding firstApplying isOneOf
+  by-tests false t u right late named a e sent = record {
+    done = ((λ z. absurd (omega arith)), (λ q. absurd (said-no right (q .0))));
+    one = ((λ z. said-no right), (λ n. e));
+    two = ((λ z. absurd (omega arith)), (λ q. absurd (said-no right (q .0))));
+    six = ((λ z. absurd (omega arith)), (λ q. absurd (said-no right (q .0))));
+    no-other = rw e;
     nothing-sent = sent;
   }
-  by-tests true true right late a e sent = record {
+  by-tests true true u right late named a e sent = record {
     done = ((λ z. absurd (omega arith)), (λ q. absurd (omega (arith, late .0 refl, q .1))));
     one = ((λ z. absurd (omega arith)), (λ n. absurd (n (right .0 refl))));
     two = ((λ z. (right .0 refl, late .0 refl)), (λ q. e));
-    at-most = omega arith;
+    six = ((λ z. absurd (omega arith)), (λ q. absurd (omega (arith, late .0 refl, q .1))));
+    no-other = rw e;
     nothing-sent = sent;
   }
-  by-tests true false right late a e sent = record {
-    done = ((λ z. (right .0 refl, leb-false-of late)), (λ q. e));
+  by-tests true false true right late named a e sent = record {
+    done = ((λ z. (right .0 refl, not-le (said-no late), named .0 refl)), (λ q. e));
     one = ((λ z. absurd (omega arith)), (λ n. absurd (n (right .0 refl))));
-    two = ((λ z. absurd (omega arith)), (λ q. absurd (false≢true (late .1 (q .1)))));
-    at-most = omega arith;
+    two = ((λ z. absurd (omega arith)), (λ q. absurd (said-no late (q .1))));
+    six = ((λ z. absurd (omega arith)), (λ q. absurd (q .2 (named .0 refl))));
+    no-other = rw e;
     nothing-sent = sent;
   }
-    where
-      leb-false-of : (false ≡ true) ↔ (timeLimit ≤ now) → now < timeLimit
-      leb-false-of late = go (decLe timeLimit now)
-        where
-          go : Dec (timeLimit ≤ now) → now < timeLimit
-          go (yes l) = absurd (false≢true (late .1 l))
-          go (no l) = omega arith
+  by-tests true false false right late named a e sent = record {
+    done = ((λ z. absurd (omega arith)), (λ q. absurd (said-no named (q .2))));
+    one = ((λ z. absurd (omega arith)), (λ n. absurd (n (right .0 refl))));
+    two = ((λ z. absurd (omega arith)), (λ q. absurd (said-no late (q .1))));
+    six = ((λ z. (right .0 refl, not-le (said-no late), said-no named)), (λ q. e));
+    no-other = rw e;
+    nothing-sent = sent;
+  }
 
-  pub start-exactly : StartExactly tables now (start tables now .answer)
-  unfolding start checkStart
+  pub start-exactly : StartExactly tables now term (start tables now term .answer)
+  unfolding start checkStart wrongTerm
   start-exactly =
-      by-tests (sized tables) (leb timeLimit now) (right-sizes tables) (le-exactly timeLimit now) (start tables now .answer)
-      (start-number tables now)
-      (go (checkStart tables now))
+      by-tests (sized tables) (leb timeLimit now) (eqb term 0 || termInRange term) (right-sizes tables) (le-exactly timeLimit now) (may-be-named term)
+      (start tables now term .answer)
+      (start-number tables now term)
+      (go (checkStart tables now term))
     where
-      go : (n : ℕ) → started n tables now .answer
-          ≡ record { number = started n tables now .answer .number; replyLength = 0; relayLength = 0; destination = 255; disconnect = false }
+      go : (n : ℕ) → started n tables now term .answer
+          ≡ record { number = started n tables now term .answer .number; replyLength = 0; relayLength = 0; destination = 255; disconnect = false }
       go zero = refl
       go (suc n) = refl

@@ -8,7 +8,7 @@ use mathlib.Core.List.{List}
 use native.Mathlib.Omega.{arith}
 use borrow.Author.Tests.{le-leb, lt-leb, eq-eqb, eqb-true}
 use Rattle.octets.specs.Octets.{byteAt, part}
-use Rattle.rules.specs.Tables.{partnerOf, ownerOf, state, peer, isUnanswered, lastSent, keepaliveSent, inSession, hasSession, expiry, idOf, live, holder, cookieOf, holderCounts, bucketOf, clock}
+use Rattle.rules.specs.Tables.{partnerOf, ownerOf, state, peer, isUnanswered, lastSent, keepaliveSent, inSession, hasSession, expiry, idOf, live, holder, cookieOf, holderCounts, bucketOf, clock, storedTerm}
 use Rattle.rules.specs.Layout.{ConnectionFields, LeaseFields, AllowanceFields, CallWords}
 use Rattle.rules.specs.Laws.{InSession}
 use Rattle.rules.proofs.Exactly.{eq-exactly, lt-exactly, and-exactly}
@@ -36,8 +36,8 @@ unfolding expiry idOf cookieOf
 lease-fields ls r = record { expiry-is = refl; id-is = refl; holder-is = refl; cookie-is = refl; of-partner = refl }
 
 pub allowance-fields : (al : List ℕ) (p : ℕ) → AllowanceFields al p
-unfolding bucketOf clock
-allowance-fields al p = record { level-is = refl; updated-is = refl; clock-is = refl }
+unfolding bucketOf clock storedTerm
+allowance-fields al p = record { level-is = refl; updated-is = refl; clock-is = refl; term-is = refl }
 
 -- what a call brings
 pub call-words : (now c : ℕ) (m random reply relay : List ℕ) → CallWords now c m random reply relay

@@ -7,7 +7,7 @@ use lib.ListN.{length, getD}
 use lib.Dec.{eqb, leb, ltb}
 use Rattle.svsc.specs.Messages.{typeOf, fromPeer}
 use Rattle.rules.specs.Sizes.{connectionCount, timeLimit, randomBytes, leastBuffer}
-use Rattle.rules.specs.Tables.{Tables, state, isClosed, hasSession, clock, sized}
+use Rattle.rules.specs.Tables.{Tables, state, isClosed, hasSession, clock, termInRange, sized}
 use Rattle.rules.specs.Calls.{Call, opening, message, closing, keepalive, timeOf, connectionOf}
 use Rattle.rules.specs.Charges.{price, callerLevel}
 
@@ -110,6 +110,10 @@ precheck tables call = firstApplying 1 (firstEight tables call)
 unfoldable pub check : Tables → Call → ℕ
 check tables call = firstApplying 1 (checks tables call)
 
--- "Making a fresh relay has checks 1 and 2 and no trays."
-unfoldable pub checkStart : Tables → ℕ → ℕ
-checkStart tables now = firstApplying 1 (wrongSize tables ∷ pastLimit now ∷ [])
+-- 02, Item 6: "naming 0 means 600, and other terms are answered with 6"
+unfoldable pub wrongTerm : ℕ → Bool
+wrongTerm term = not (eqb term 0 || termInRange term)
+
+-- "Making a fresh relay has checks 1 and 2 and no trays."; "other terms are answered with 6, after checks 1 and 2". It has no 3, 4 and 5.
+unfoldable pub checkStart : Tables → ℕ → ℕ → ℕ
+checkStart tables now term = firstApplying 1 (wrongSize tables ∷ pastLimit now ∷ false ∷ false ∷ false ∷ wrongTerm term ∷ [])

@@ -21,7 +21,7 @@ pub record RelayDemand3 : Type 0 where
   -- What is compared with the level, and what is charged, is the cost that stands in history, of every call that is done.
   pub price-is-cost : (tables : Tables) (call : Call) → step tables call .answer .number ≡ 0 → price tables call ≡ cost call (step tables call .answer)
   -- "A run is a fresh start answered with 0 and then any list of opens, messages and closes, refused ones included.", and of keepalives
-  pub every-run : (lent : Tables) (now : ℕ) → start lent now .answer .number ≡ 0 → (calls : List Call)
-      → Claim relayMeter (start lent now .tables) now calls
+  pub every-run : (lent : Tables) (now term : ℕ) → start lent now term .answer .number ≡ 0 → (calls : List Call)
+      → Claim relayMeter (start lent now term .tables) now calls
   -- The bound holds of any calls, whatever the tables held before them.
   pub any-tables : (tables : Tables) (calls : List Call) → Bounded (history tables calls)

@@ -334,7 +334,7 @@ pub record LeaseRow (ls : List ℕ) (r until id : ℕ) (cookie : List ℕ) (c : 
   pub cookie-is : cookieOf ls r ≡ cookie
   pub holder-is : holder ls r ≡ c
 
--- a new lease: "with those 24 bytes as cookie, this holder, expiry reading + 3,600" (`until`, in the law); bytes 13-15 stay
+-- a new lease: "with those 24 bytes as cookie, this holder, expiry reading +" the term (`until`, in the law); bytes 13-15 stay
 pub record LeaseTold (tables : Tables) (call : Call) (row until id : ℕ) (cookie : List ℕ) (c : ℕ) (o : Outcome) (told : List ℕ) : Type 0 where
   pub sent : RepliedOnly call o told
   pub written : LeaseRow (o .tables .leases) row until id cookie c
@@ -354,7 +354,7 @@ abbrev pub Extendable : List ℕ → ℕ → ℕ → List ℕ → Type 0
 Extendable ls now c cookie =
     (r : ℕ) × (ownerOf r ≡ partnerOf c) × (live ls now r ≡ true) × (holder ls r ≡ c) × (cookieOf ls r ≡ cookie)
 
--- "expiry becomes reading + 3,600" (`until`, in the law)
+-- "expiry becomes reading +" the term (`until`, in the law)
 pub record ExtensionTold (tables : Tables) (call : Call) (row until c : ℕ) (o : Outcome) (told : List ℕ) : Type 0 where
   pub sent : RepliedOnly call o told
   pub written : expiry (o .tables .leases) row ≡ until

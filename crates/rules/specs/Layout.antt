@@ -10,7 +10,7 @@ use Rattle.octets.specs.Octets.{byteAt, part, numberAt}
 use Rattle.svsc.specs.Messages.{VersionAnswer, LeaseRequest, LeaseRequestWithCookie, ExtensionRequest, EstablishRequest, SessionEnd, DataSend, Keepalive, typeOf, decode}
 use lib.ListN.{drop}
 use Rattle.rules.specs.Sizes.{connectionsPerPartner, rowsPerPartner}
-use Rattle.rules.specs.Tables.{partnerOf, ownerOf, state, peer, isUnanswered, lastSent, keepaliveSent, sessionIdOf, peerIdOf, peerKeyOf, expiry, idOf, holder, cookieOf, bucketOf, clock}
+use Rattle.rules.specs.Tables.{partnerOf, ownerOf, state, peer, isUnanswered, lastSent, keepaliveSent, sessionIdOf, peerIdOf, peerKeyOf, expiry, idOf, holder, cookieOf, bucketOf, clock, storedTerm, leaseTerm}
 use Rattle.rules.specs.Calls.{opening, message, closing, keepalive, timeOf, connectionOf, callerOf, replyBuffer, relayBuffer}
 
 -- "64 bytes. Byte 0 state (0 closed, 1 awaiting the version answer, 2 open), byte 1 peer connection or 255, .. 16-31 session-id, 32-47
@@ -37,11 +37,21 @@ pub record LeaseFields (ls : List ℕ) (r : ℕ) : Type 0 where
   pub cookie-is : cookieOf ls r ≡ part ls (40 * r + 16) 24
   pub of-partner : ownerOf r ≡ r / rowsPerPartner
 
--- "9 records of 16 bytes: level 8, moment 8. The ninth has .., as moment, the relay's latest clock reading."
+-- "9 records of 16 bytes: level 8, moment 8. The ninth has .., as moment, the relay's latest clock reading."; 02, Item 6: "The ninth allowance
+-- record's level keeps the term."
 pub record AllowanceFields (al : List ℕ) (p : ℕ) : Type 0 where
   pub level-is : bucketOf al p .level ≡ numberAt al (16 * p) 8
   pub updated-is : bucketOf al p .updated ≡ numberAt al (16 * p + 8) 8
   pub clock-is : clock al ≡ numberAt al 136 8
+  pub term-is : storedTerm al ≡ numberAt al 128 8
+
+-- 02, Item 6: how long leases last, by what the tables keep: "A board where it holds 0 is an old one and keeps 3,600; any other number out of
+-- range reads as 600."
+pub record TermRead (al : List ℕ) : Type 0 where
+  pub old : storedTerm al ≡ 0 → leaseTerm al ≡ 3600
+  pub in-range : 600 ≤ storedTerm al → storedTerm al ≤ 86400 → leaseTerm al ≡ storedTerm al
+  pub below : 0 < storedTerm al → storedTerm al < 600 → leaseTerm al ≡ 600
+  pub above : 86400 < storedTerm al → leaseTerm al ≡ 600
 
 -- what is meant by the time, the connection, the partner and the buffers of each call
 pub record CallWords (now c : ℕ) (m random reply relay : List ℕ) : Type 0 where

@@ -5,13 +5,14 @@ use mathlib.Core.List.{List}
 use lib.Dec.{eqb, ltb}
 use Rattle.octets.specs.Octets.{if_then_else_, part, numberAt, same}
 use Rattle.svsc.specs.Messages.{cookieBytes}
-use Rattle.rules.specs.Sizes.{rowsPerPartner, rowCount, nobody, leaseTerm, candidateCount, candidateBytes, idLimit}
+use Rattle.rules.specs.Sizes.{rowsPerPartner, rowCount, nobody, candidateCount, candidateBytes, idLimit}
 use Rattle.rules.specs.Searches.{firstFrom, anyFrom, firstRow, endRow, firstOwn, anyOwn}
-use Rattle.rules.specs.Tables.{partnerOf, expiry, idOf, holder, cookieOf, live, liveWithId, holderCounts, setExpiry, setId, setHolder, setCookie}
+use Rattle.rules.specs.Tables.{partnerOf, leaseTerm, expiry, idOf, holder, cookieOf, live, liveWithId, holderCounts, setExpiry, setId, setHolder, setCookie}
 
--- "expiry reading + 3,600": when a lease that is given, renewed or extended now ends. The first argument, the allowance table, is not read.
+-- when a lease that is given, renewed or extended now ends: "expiry reading +" the term; 02, Item 6: "Extensions and Item 2's renewals use the
+-- same term."
 unfoldable pub leaseEnd : List ℕ → ℕ → ℕ
-leaseEnd al now = now + leaseTerm
+leaseEnd al now = now + leaseTerm al
 
 -- ---- Lease
 
@@ -95,7 +96,7 @@ decideLease cs ls now c random cookie =
     else if not (ltb (firstFree ls now random) candidateCount) then noFreeId
     else renewOrGrant cs ls now (partnerOf c) cookie (spareRow ls now (partnerOf c)) (candidate random (firstFree ls now random)) (randomCookie random)
 
--- "The first free candidate goes into" that row, "with those 24 bytes as cookie, this holder, expiry reading + 3,600."
+-- "The first free candidate goes into" that row, "with those 24 bytes as cookie, this holder, expiry reading +" the term
 unfoldable pub grant : List ℕ → ℕ → ℕ → ℕ → List ℕ → ℕ → List ℕ
 grant ls row until id cookie c = setCookie (setHolder (setId (setExpiry ls row until) row id) row c) row cookie
 

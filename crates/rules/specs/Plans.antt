@@ -72,7 +72,7 @@ planLease tables now c (granted row id cookie) =
     let until = leaseEnd (tables .allowances) now in
     replyOnly (tables .connections) (grant (tables .leases) row until id cookie c) (encode (LeaseGranted id cookie until))
 
--- Extension: "reply is type 5"; "expiry becomes reading + 3,600"
+-- Extension: "reply is type 5"; "expiry becomes reading +" the term
 unfoldable pub planExtension : Tables → ℕ → ℕ → ℕ → Plan
 planExtension tables now c row =
     let until = leaseEnd (tables .allowances) now in

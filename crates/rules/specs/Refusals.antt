@@ -90,10 +90,16 @@ pub record EachExactly (tables : Tables) (call : Call) : Type 0 where
   -- "the charge exceeds the partner's level"
   pub nine : Applies 9 tables call ↔ (levelNow (bucketOf (tables .allowances) (callerOf call)) (timeOf call) < price tables call)
 
--- "Making a fresh relay has checks 1 and 2 and no trays.": what a start is answered with, and that it sends nothing
-pub record StartExactly (tables : Tables) (now : ℕ) (a : Answer) : Type 0 where
-  pub done : (a .number ≡ 0) ↔ (RightSizes tables × (now < timeLimit))
+-- 02, Item 6: a term that a host may name: "from 600 to 86,400", "naming 0 means 600"
+abbrev pub MayBeNamed : ℕ → Type 0
+MayBeNamed term = (term ≡ 0) ⊎ ((600 ≤ term) × (term ≤ 86400))
+
+-- "Making a fresh relay has checks 1 and 2 and no trays."; "other terms are answered with 6, after checks 1 and 2": what a start is answered
+-- with, and that it sends nothing
+pub record StartExactly (tables : Tables) (now term : ℕ) (a : Answer) : Type 0 where
+  pub done : (a .number ≡ 0) ↔ (RightSizes tables × (now < timeLimit) × MayBeNamed term)
   pub one : (a .number ≡ 1) ↔ (RightSizes tables → ⊥)
   pub two : (a .number ≡ 2) ↔ (RightSizes tables × (timeLimit ≤ now))
-  pub at-most : a .number ≤ 2
+  pub six : (a .number ≡ 6) ↔ (RightSizes tables × (now < timeLimit) × (MayBeNamed term → ⊥))
+  pub no-other : isOneOf (a .number) (0 ∷ 1 ∷ 2 ∷ 6 ∷ []) ≡ true
   pub nothing-sent : a ≡ record { number = a .number; replyLength = 0; relayLength = 0; destination = 255; disconnect = false }

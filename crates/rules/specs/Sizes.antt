@@ -85,9 +85,18 @@ greatestPrice = 131100
 abbrev pub retryAfter : ℕ
 retryAfter = 3
 
--- "expiry reading + 3,600"
-abbrev pub leaseTerm : ℕ
-leaseTerm = 3600
+-- 02, Item 6: "Leases last 600 seconds unless the host names another term, from 600 to 86,400"; "an old one .. keeps 3,600"
+abbrev pub defaultTerm : ℕ
+defaultTerm = 600
+
+abbrev pub shortestTerm : ℕ
+shortestTerm = 600
+
+abbrev pub longestTerm : ℕ
+longestTerm = 86400
+
+abbrev pub oldTerm : ℕ
+oldTerm = 3600
 
 -- "fourteen candidates of four bytes, each taken modulo 67,108,864"; "IDs may have 26 to 33 bits .. We use 26."
 abbrev pub candidateCount : ℕ

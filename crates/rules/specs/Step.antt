@@ -41,10 +41,10 @@ outcome (suc n) tables call = refused (suc n) tables call
 unfoldable pub step : Tables → Call → Outcome
 step tables call = outcome (check tables call) tables call
 
--- Making a fresh relay: the tables become fresh, or stay. Nothing is sent.
-abbrev pub started : ℕ → Tables → ℕ → Outcome
-started zero tables now = record { answer = sentNothing 0; tables = fresh now; reply = []; relay = [] }
-started (suc n) tables now = record { answer = refusal (suc n); tables = tables; reply = []; relay = [] }
+-- Making a fresh relay at a time, with a term: the tables become fresh, or stay. Nothing is sent.
+abbrev pub started : ℕ → Tables → ℕ → ℕ → Outcome
+started zero tables now term = record { answer = sentNothing 0; tables = fresh now term; reply = []; relay = [] }
+started (suc n) tables now term = record { answer = refusal (suc n); tables = tables; reply = []; relay = [] }
 
-unfoldable pub start : Tables → ℕ → Outcome
-start tables now = started (checkStart tables now) tables now
+unfoldable pub start : Tables → ℕ → ℕ → Outcome
+start tables now term = started (checkStart tables now term) tables now term

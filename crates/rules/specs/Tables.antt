@@ -8,7 +8,7 @@ use lib.Dec.{eqb, leb, ltb}
 use Rattle.octets.specs.Octets.{if_then_else_, byteAt, bigEndian, part, numberAt, put}
 use Rattle.svsc.specs.Messages.{cookieBytes, keyBytes}
 use Rattle.allowance.specs.Bucket.{Bucket, full}
-use Rattle.rules.specs.Sizes.{partners, connectionsPerPartner, rowsPerPartner, connectionCount, rowCount, connectionBytes, leaseBytes, allowanceBytes, connectionsSize, leasesSize, allowancesSize, timeBytes, nobody}
+use Rattle.rules.specs.Sizes.{partners, connectionsPerPartner, rowsPerPartner, connectionCount, rowCount, connectionBytes, leaseBytes, allowanceBytes, connectionsSize, leasesSize, allowancesSize, timeBytes, nobody, defaultTerm, shortestTerm, longestTerm, oldTerm}
 
 -- "Three lent byte tables of fixed records, without headers."
 pub record Tables : Type 0 where
@@ -174,7 +174,8 @@ setHolder ls r c = put ls (holderAt r) (c ∷ [])
 abbrev pub setCookie : List ℕ → ℕ → List ℕ → List ℕ
 setCookie ls r cookie = put ls (cookieAt r) cookie
 
--- ---- allowances: "level 8, moment 8. The ninth has level 0 and, as moment, the relay's latest clock reading."
+-- ---- allowances: "level 8, moment 8. The ninth has .., as moment, the relay's latest clock reading."; 02, Item 6: "The ninth allowance record's
+-- level keeps the term." It is no allowance.
 
 abbrev pub allowanceAt : ℕ → ℕ
 allowanceAt p = allowanceBytes * p
@@ -187,6 +188,20 @@ bucketOf al p = record { level = numberAt al (allowanceAt p) 8; updated = number
 
 unfoldable pub clock : List ℕ → ℕ
 clock al = numberAt al (updatedAt partners) 8
+
+abbrev pub termAt : ℕ
+termAt = allowanceAt partners
+
+unfoldable pub storedTerm : List ℕ → ℕ
+storedTerm al = numberAt al termAt 8
+
+-- "from 600 to 86,400"
+unfoldable pub termInRange : ℕ → Bool
+termInRange term = leb shortestTerm term && leb term longestTerm
+
+-- how long leases last: "A board where it holds 0 is an old one and keeps 3,600; any other number out of range reads as 600."
+unfoldable pub leaseTerm : List ℕ → ℕ
+leaseTerm al = if eqb (storedTerm al) 0 then oldTerm else if termInRange (storedTerm al) then storedTerm al else defaultTerm
 
 unfoldable pub bucketBytes : Bucket → List ℕ
 bucketBytes b = bigEndian 8 (b .level) ++ bigEndian 8 (b .updated)
@@ -211,12 +226,16 @@ freshConnection = closed ∷ nobody ∷ replicate 62 0
 abbrev pub freshLease : List ℕ
 freshLease = replicate 12 0 ++ (nobody ∷ replicate 27 0)
 
--- "Fresh, at a reading t: .. the eight partners' levels 262,144, the ninth 0, every moment t."
-unfoldable pub fresh : ℕ → Tables
-fresh now = record {
+-- 02, Item 6: "naming 0 means 600"
+unfoldable pub namedTerm : ℕ → ℕ
+namedTerm term = if eqb term 0 then defaultTerm else term
+
+-- "Fresh, at a reading t: .. the eight partners' levels 262,144, .. every moment t.", and in the ninth record the term that the host names
+unfoldable pub fresh : ℕ → ℕ → Tables
+fresh now term = record {
   connections = records connectionCount freshConnection;
   leases = records rowCount freshLease;
-  allowances = records partners (bucketBytes (full now)) ++ bucketBytes (record { level = 0; updated = now });
+  allowances = records partners (bucketBytes (full now)) ++ (bigEndian 8 (namedTerm term) ++ bigEndian 8 now);
 }
 
 -- Check 1: "4,096, 5,120 or 144 bytes"

@@ -47,10 +47,12 @@ pub const HOLDER_AT: usize = 12;
 
 pub const COOKIE_AT: usize = 16;
 
-// of an allowance the time of its last charge, behind the level; that of the last record is the clock.
+// of an allowance the time of its last charge, behind the level. The last record is none: it has the term of leases and the clock.
 pub const UPDATED_AT: usize = 8;
 
-pub const CLOCK_AT: usize = ALLOWANCE_BYTES * PARTNERS + UPDATED_AT;
+pub const TERM_AT: usize = ALLOWANCE_BYTES * PARTNERS;
+
+pub const CLOCK_AT: usize = TERM_AT + UPDATED_AT;
 
 // The states of a connection.
 pub const CLOSED: u8 = 0;
@@ -81,9 +83,16 @@ pub const CALL_COST: u64 = 32;
 // What an open costs: that, and the bytes of the version message.
 pub const OPEN_COST: u64 = 45;
 
-// The seconds of a lease; the candidates for its id, their bytes, and the first number that is no id.
-pub const LEASE_TERM: u64 = 3600;
+// The seconds of a lease: where none is named, the fewest and the most that may be, and in tables from before there was a term.
+pub const DEFAULT_TERM: u64 = 600;
 
+pub const SHORTEST_TERM: u64 = 600;
+
+pub const LONGEST_TERM: u64 = 86400;
+
+pub const OLD_TERM: u64 = 3600;
+
+// The candidates for its id, their bytes, and the first number that is no id.
 pub const CANDIDATE_COUNT: usize = 14;
 
 pub const CANDIDATE_BYTES: usize = 4;

@@ -50,7 +50,7 @@ pub struct Tables<'a> {
 
 declare_on_tables! {
     mut -> Answer;
-    crondelith_fresh(now: u64);
+    crondelith_fresh(now: u64, term: u64);
     crondelith_open(now: u64, connection: u64, reply: *mut u8, reply_length: usize);
     crondelith_message(
         now: u64,
@@ -75,9 +75,9 @@ declare_on_tables! {
     );
 }
 
-/// Makes a fresh relay of the tables.
-pub fn fresh(tables: Tables, now: u64) -> Answer {
-    call_on_tables!(crondelith_fresh, tables.as_mut_ptr, now)
+/// Makes a fresh relay of the tables, whose leases last so many seconds; 0 means 600.
+pub fn fresh(tables: Tables, now: u64, term: u64) -> Answer {
+    call_on_tables!(crondelith_fresh, tables.as_mut_ptr, now, term)
 }
 
 /// Opens a connection: the reply is the version message.

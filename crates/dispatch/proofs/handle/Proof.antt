@@ -29,7 +29,7 @@ lease-requires : tie.Need-lease-requires
 lease-requires c κs =
     let s = c .before .before .before .before .before .before .before .before .before .before .before .before in
     let p = s .pre .0 in (
-      record { size = p .size; known = p .known; timely = p .timely; room = p .reply-room },
+      record { size = p .size; allowances = p .allowances; known = p .known; timely = p .timely; room = p .reply-room },
       p .random-size,
       feasible-in (s .args .random .now) (s .args .m .now) (s .args .decision) (c .before .before .before .decision2 .given .1) (s .pre .1),
     )
@@ -40,7 +40,7 @@ enum-known-decision-3 c = search needs
 extend-requires : tie.Need-extend-requires
 extend-requires c κs =
     let p = c .before .before .before .before .before .before .before .before .before .before .before .before .pre .0 in
-    record { size = p .size; known = p .known; timely = p .timely; room = p .reply-room }
+    record { size = p .size; allowances = p .allowances; known = p .known; timely = p .timely; room = p .reply-room }
 
 enum-known-decision-4 : tie.Need-enum-known-decision-4
 enum-known-decision-4 c = search needs

@@ -20,7 +20,7 @@ same-length c = search needs
 
 returns : tie.Need-returns
 unfolding fresh
-returns c t = filled (c .before .before .before .before .before .before .args .connections .now) _ _ connectionCount (c .before .before .before .before .before .before .pre) (c .before .before .fill-records .ensures)
+returns c t term = filled (c .before .before .before .before .before .before .args .connections .now) _ _ connectionCount (c .before .before .before .before .before .before .pre) (c .before .before .fill-records .ensures)
 
 pub fresh-connections-spec : {M : Type 1} → statement M
 fresh-connections-spec =

@@ -20,7 +20,7 @@ same-length c = search needs
 
 returns : tie.Need-returns
 unfolding fresh
-returns c t = filled (c .before .before .before .before .before .before .args .leases .now) _ _ rowCount (c .before .before .before .before .before .before .pre) (c .before .before .fill-records .ensures)
+returns c t term = filled (c .before .before .before .before .before .before .args .leases .now) _ _ rowCount (c .before .before .before .before .before .before .pre) (c .before .before .fill-records .ensures)
 
 pub fresh-leases-spec : {M : Type 1} → statement M
 fresh-leases-spec =

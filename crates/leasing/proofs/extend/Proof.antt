@@ -17,7 +17,7 @@ use Rattle.answers.proofs.replied.Reads as replied-reads
 use Rattle.lease_table.proofs.end_row.Reads as end-row-reads
 use Rattle.lease_table.proofs.partner_of.Reads as partner-of-reads
 use Rattle.lease_writes.proofs.extend.Reads as extend-reads
-use Rattle.leases.proofs.lease_end.Reads as lease-end-reads
+use Rattle.lease_terms.proofs.lease_end.Reads as lease-end-reads
 use Rattle.svsc_lease_writers.proofs.svsc_write_extension_granted.Reads as svsc-write-extension-granted-reads
 use Rattle.svsc_lease_writers.proofs.svsc_write_extension_refused.Reads as svsc-write-extension-refused-reads
 

@@ -24,22 +24,22 @@ same-length-3 c = search needs
 returns : tie.Need-returns
 returns c =
     let a = c .before .before .before .before .before .before .before .before .before .args in
-    start-refused (lent (a .connections .now) (a .leases .now) (a .allowances .now)) (a .time) _ (c .before .before .refusal .ensures) (c .before .if1 .taken) _ (c .sent-nothing .ensures)
+    start-refused (lent (a .connections .now) (a .leases .now) (a .allowances .now)) (a .time) (a .term) _ (c .before .before .refusal .ensures) (c .before .if1 .taken) _ (c .sent-nothing .ensures)
 
 fresh-connections-requires : tie.Need-fresh-connections-requires
 fresh-connections-requires c κs =
     let a = c .before .before .before .before .before .before .before .before .before .args in
-    start-sized (lent (a .connections .now) (a .leases .now) (a .allowances .now)) (a .time) _ (c .before .before .refusal .ensures) (c .before .if1 .left) .connections
+    start-sized (lent (a .connections .now) (a .leases .now) (a .allowances .now)) (a .time) (a .term) _ (c .before .before .refusal .ensures) (c .before .if1 .left) .connections
 
 fresh-leases-requires : tie.Need-fresh-leases-requires
 fresh-leases-requires c κs =
     let a = c .before .before .before .before .before .before .before .before .before .before .before .before .before .args in
-    start-sized (lent (a .connections .now) (a .leases .now) (a .allowances .now)) (a .time) _ (c .before .before .before .before .before .before .refusal .ensures) (c .before .before .before .before .before .if1 .left) .leases
+    start-sized (lent (a .connections .now) (a .leases .now) (a .allowances .now)) (a .time) (a .term) _ (c .before .before .before .before .before .before .refusal .ensures) (c .before .before .before .before .before .if1 .left) .leases
 
 fresh-allowances-requires : tie.Need-fresh-allowances-requires
 fresh-allowances-requires c κs =
     let a = c .before .before .before .before .before .before .before .before .before .before .before .before .before .before .before .before .before .args in
-    start-sized (lent (a .connections .now) (a .leases .now) (a .allowances .now)) (a .time) _ (c .before .before .before .before .before .before .before .before .before .before .refusal .ensures) (c .before .before .before .before .before .before .before .before .before .if1 .left) .allowances
+    start-sized (lent (a .connections .now) (a .leases .now) (a .allowances .now)) (a .time) (a .term) _ (c .before .before .before .before .before .before .before .before .before .before .refusal .ensures) (c .before .before .before .before .before .before .before .before .before .if1 .left) .allowances
 
 sent-nothing-requires-2 : tie.Need-sent-nothing-requires-2
 sent-nothing-requires-2 c κs = search needs
@@ -56,8 +56,8 @@ same-length-6 c = search needs
 returns-2 : tie.Need-returns-2
 returns-2 c =
     let a = c .before .before .before .before .before .before .before .before .before .before .before .before .before .before .before .before .before .before .before .before .before .args in
-    start-done (lent (a .connections .now) (a .leases .now) (a .allowances .now)) (a .time) _ (c .before .before .before .before .before .before .before .before .before .before .before .before .before .before .refusal .ensures) (c .before .before .before .before .before .before .before .before .before .before .before .before .before .if1 .left) _ _ _ _ (c .sent-nothing2 .ensures) (c .before .before .before .before .before .before .before .before .before .before .before .fresh-connections .ensures (a .time))
-    (c .before .before .before .before .before .before .before .fresh-leases .ensures (a .time)) (c .before .before .before .fresh-allowances .ensures)
+    start-done (lent (a .connections .now) (a .leases .now) (a .allowances .now)) (a .time) (a .term) _ (c .before .before .before .before .before .before .before .before .before .before .before .before .before .before .refusal .ensures) (c .before .before .before .before .before .before .before .before .before .before .before .before .before .if1 .left) _ _ _ _ (c .sent-nothing2 .ensures) (c .before .before .before .before .before .before .before .before .before .before .before .fresh-connections .ensures (a .time) (a .term))
+    (c .before .before .before .before .before .before .before .fresh-leases .ensures (a .time) (a .term)) (c .before .before .before .fresh-allowances .ensures)
 
 pub crondelith-fresh-spec : {M : Type 1} → statement M
 crondelith-fresh-spec =
