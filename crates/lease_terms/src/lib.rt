@@ -39,10 +39,9 @@ pub fn lease_term(allowances: &[u8]) -> u64
         return rules::OLD_TERM;
     }
     if is_in_range(stored) {
-        stored
-    } else {
-        rules::DEFAULT_TERM
+        return stored;
     }
+    rules::DEFAULT_TERM
 }
 
 // When a lease that is given, renewed or extended at a time ends.

@@ -88,7 +88,7 @@ module _ (tables : Tables) (now c : ℕ) where
       (λ h.
       same-rows _
       (kept-expiry ls (rowToExtend ls now c cookie) (λ n. n (is-extended ls now c cookie h .0 .owner))
-      (leaseEnd al now)))
+      _))
       (λ h. nothing-within)
 
   establish-within : (id : ℕ) (random : List ℕ) (d : EstablishDecision) → decideEstablish cs ls now c id ≡ d
