@@ -26,7 +26,7 @@ use Rattle.rules.proofs.Rows.{kept-expiry, kept-grant, kept-renew, by-holder, i
 -- ---- a row that is as it was
 
 module _ (ls ms : List ℕ) (r : ℕ) (e : leaseRecord ms r ≡ leaseRecord ls r) where
-  expiry-same : expiry ms r ≡ expiry ls r
+  pub expiry-same : expiry ms r ≡ expiry ls r
   unfolding expiry numberAt
   expiry-same = let z : leaseAt r + 0 ≡ leaseAt r = omega arith in ap number (rw z at (field-same leaseBytes r ls ms e 0 8 (lit≤ tt)))
 
@@ -116,7 +116,7 @@ module _ (k : ℕ) where
     number-beside ls (holderAt r) (c ∷ []) (idAt k) 4 (λ l. omega arith),
   )
 
-  release-keeps : (n : ℕ) (ls : List ℕ) (c r : ℕ) → Keeps ls (releaseFrom ls c r n)
+  pub release-keeps : (n : ℕ) (ls : List ℕ) (c r : ℕ) → Keeps ls (releaseFrom ls c r n)
   unfolding releaseFrom
   release-keeps zero ls c r = (refl, refl)
   release-keeps (suc n) ls c r =
@@ -133,7 +133,7 @@ distinct-release ls now c d =
     (sym (live-same ls _ now r (k .0)) ∙ h, k .1))
 
 -- no row of a fresh table is live
-fresh-expiry : (r : ℕ) → r < rowCount → numberAt (records rowCount freshLease) (leaseAt r) 8 ≡ 0
+pub fresh-expiry : (r : ℕ) → r < rowCount → numberAt (records rowCount freshLease) (leaseAt r) 8 ≡ 0
 unfolding numberAt number numberFrom part
 fresh-expiry r r< =
     let z : leaseAt r + 0 ≡ leaseAt r = omega arith in

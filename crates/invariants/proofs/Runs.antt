@@ -2,16 +2,20 @@
 use Prim.Native.Nat.{ℕ, _≤_}
 use mathlib.Core.Path.{_≡_}
 use mathlib.Core.List.{List}
+use lib.Dec.{eqb}
+use Rattle.octets.specs.Octets.{if_then_else_}
 use Rattle.rules.specs.Tables.{Tables, clock}
 use Rattle.rules.specs.Calls.{Call}
 use Rattle.rules.specs.Step.{start}
 use Rattle.rules.specs.Runs.{after}
-use Rattle.invariants.specs.Invariants.{DistinctIds, SpareZero, InTime}
+use Rattle.invariants.specs.Invariants.{DistinctIds, SpareZero, InTime, EndsWithin}
 use Rattle.rules.proofs.Demand3.{started-fresh}
+use Rattle.rules.proofs.Terms.{run-term}
 use Rattle.invariants.proofs.DistinctIds.{distinct-later, distinct-fresh}
 use Rattle.invariants.proofs.Ids.{run-distinct}
 use Rattle.invariants.proofs.Spare.{fresh-spare, run-spare}
 use Rattle.invariants.proofs.Timely.{run-in-time}
+use Rattle.invariants.proofs.Ends.{run-ends, fresh-ends}
 
 module _ (lent : Tables) (now term : ℕ) (e : start lent now term .answer .number ≡ 0) where
   abbrev made : Tables
@@ -28,3 +32,7 @@ module _ (lent : Tables) (now term : ℕ) (e : start lent now term .answer .numb
   -- Byte 2 of every connection record is 0 or 1, and no stored time is after the clock: other values come from other tables.
   pub times-in-order : (calls : List Call) → InTime (after made calls)
   times-in-order calls = rw (started-fresh lent now term e) (run-in-time calls now term)
+
+  -- No lease ends later than the term after the clock: the term that the start named, 600 if it named 0.
+  pub leases-end-in-term : (calls : List Call) → EndsWithin (if eqb term 0 then 600 else term) (after made calls)
+  leases-end-in-term calls = rw (← run-term lent now term e calls) (run-ends calls made (rw (started-fresh lent now term e) (fresh-ends now term)))

@@ -6,12 +6,16 @@ use mathlib.Core.Bool.{true}
 use mathlib.Core.List.{List}
 use Rattle.octets.specs.Octets.{byteAt}
 use Rattle.rules.specs.Sizes.{connectionCount, rowCount, connectionBytes, leaseBytes}
-use Rattle.rules.specs.Tables.{Tables, connectionAt, lastSent, keepaliveSent, live, idOf, clock}
+use Rattle.rules.specs.Tables.{Tables, connectionAt, lastSent, keepaliveSent, live, expiry, idOf, clock}
 
 -- Any two live rows have different ids.
 abbrev pub DistinctIds : List ℕ → ℕ → Type 0
 DistinctIds ls now =
     (r s : ℕ) → r < rowCount → s < rowCount → live ls now r ≡ true → live ls now s ≡ true → idOf ls r ≡ idOf ls s → r ≡ s
+
+-- No row, live or not, ends later than so many seconds after the latest reading.
+abbrev pub EndsWithin : ℕ → Tables → Type 0
+EndsWithin seconds tables = (r : ℕ) → r < rowCount → expiry (tables .leases) r ≤ clock (tables .allowances) + seconds
 
 -- bytes 3, 14 and 15 of a connection record: what 02, Item 3, leaves of "2-15 zero"
 abbrev pub IsSpare : ℕ → Type 0

@@ -101,15 +101,19 @@ module _ (ls : List ℕ) (r until id : ℕ) (cookie : List ℕ) (c : ℕ) (size 
       ∙ numberAt-before with-id (holderAt r) (c ∷ []) (idAt r) 4 (omega arith)
       ∙ numberAt-put with-expiry (idAt r) 4 id (omega (arith, size-expiry)) (lt-of-lt-of-le small (lit≤ tt))
 
+  pub expiry-granted : until < 256 ^ 8 → expiry (grant ls r until id cookie c) r ≡ until
+  unfolding grant expiry with-holder with-id with-expiry
+  expiry-granted h =
+      numberAt-before with-holder (cookieAt r) cookie (leaseAt r) 8 (omega arith)
+      ∙ numberAt-before with-id (holderAt r) (c ∷ []) (leaseAt r) 8 (omega arith)
+      ∙ numberAt-before with-expiry (idAt r) (bigEndian 4 id) (leaseAt r) 8 (omega arith)
+      ∙ expiry-set ls r until size r< h
+
   pub granted-row : until < 256 ^ 8 → id < idLimit → length cookie ≡ cookieBytes
       → LeaseRow (grant ls r until id cookie c) r until id cookie c
-  unfolding grant expiry cookieOf with-holder with-id with-expiry
+  unfolding grant cookieOf with-holder with-id with-expiry
   granted-row h small long = record {
-    expiry-is =
-        numberAt-before with-holder (cookieAt r) cookie (leaseAt r) 8 (omega arith)
-        ∙ numberAt-before with-id (holderAt r) (c ∷ []) (leaseAt r) 8 (omega arith)
-        ∙ numberAt-before with-expiry (idAt r) (bigEndian 4 id) (leaseAt r) 8 (omega arith)
-        ∙ expiry-set ls r until size r< h;
+    expiry-is = expiry-granted h;
     id-is = id-granted small;
     cookie-is =
         ap (part (setCookie with-holder r cookie) (cookieAt r)) (sym long)

@@ -91,7 +91,11 @@ module _ (lent : Tables) (now term : ℕ) (e : start lent now term .answer .numb
   pub run-keeps-term : (calls : List Call) → storedTerm (after made calls .allowances) ≡ named
   run-keeps-term calls = stored-term-stays calls made ∙ kept
 
+  -- it is how long leases last,
+  pub run-term : (calls : List Call) → leaseTerm (after made calls .allowances) ≡ named
+  run-term calls = term-stays calls made ∙ read
+
   -- and every lease that is given, renewed or extended then ends so many seconds later.
   pub run-lease-end : (calls : List Call) (t : ℕ) → leaseEnd (after made calls .allowances) t ≡ t + named
   unfolding leaseEnd
-  run-lease-end calls t = ap (λ (n : ℕ). t + n) (term-stays calls made ∙ read)
+  run-lease-end calls t = ap (λ (n : ℕ). t + n) (run-term calls)
