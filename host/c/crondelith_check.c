@@ -1,7 +1,8 @@
 /* A scene over the compiled engine, through include/crondelith.h as a C program would call it: two connections of one partner lease
  * an id, hold a session, use up their allowance and leave, and each refusal from 1 to 9 comes. After power cuts others come back with
- * the cookie and have the id again, and one that no longer answers is found. What must come back was worked out from the scope
- * document and the requests by hand. Every other case is compared in Rust (host/compare). */
+ * the cookie and have the id again, and one that no longer answers is found. Before that, relays of several terms lease an id each.
+ * What must come back was worked out from the scope document and the requests by hand. Every other case is compared in Rust
+ * (host/compare). */
 #include <string.h>
 
 #include "check.h"
@@ -70,12 +71,79 @@ static void check_establish(uint64_t now) {
     CHECK(memcmp(relay, "\10" S P Q, 49) == 0);
 }
 
-static void check_fresh(void) {
-    check_refused(crondelith_fresh(connections, sizeof connections - 1, leases, sizeof leases, allowances, sizeof allowances, 100), 1);
-    check_refused(crondelith_fresh(TABLES, UINT64_C(1) << 40), 2);
-    check_answer(crondelith_fresh(TABLES, 100), 0, 0, 0, CRONDELITH_NOBODY, 0);
+/* The last of the allowances' records has the term where the others have a level. */
+#define TERM (sizeof allowances - 16)
+
+static uint64_t number_at(const uint8_t *bytes) {
+    uint64_t number = 0;
+    for (int place = 0; place < 8; place++) number = number << 8 | bytes[place];
+    return number;
+}
+
+/* A table too short, and then a time too late, comes before the term. Nothing is written. */
+static void check_fresh_refusals(void) {
+    static const uint64_t terms[] = {1, 599, 86401, UINT64_C(1) << 32, (UINT64_C(1) << 32) + 600, UINT64_MAX};
+    static const uint64_t too_late = UINT64_C(1) << 40;
+    for (size_t place = 0; place < sizeof terms / sizeof terms[0]; place++) {
+        check_refused(crondelith_fresh(connections, sizeof connections - 1, leases, sizeof leases, allowances, sizeof allowances,
+                                       too_late, terms[place]),
+                      1);
+        check_refused(crondelith_fresh(TABLES, too_late, terms[place]), 2);
+        check_refused(crondelith_fresh(TABLES, too_late - 1, terms[place]), 6);
+    }
+    check_refused(crondelith_fresh(TABLES, too_late, 600), 2);
+    CHECK(connections[1] == 0 && leases[12] == 0 && number_at(allowances) == 0 && number_at(allowances + TERM) == 0);
+}
+
+static void check_fresh(uint64_t term, uint64_t stored) {
+    check_answer(crondelith_fresh(TABLES, 100, term), 0, 0, 0, CRONDELITH_NOBODY, 0);
     CHECK(connections[0] == 0 && connections[1] == 255 && leases[12] == 255);
     CHECK(memcmp(allowances, "\0\0\0\0\0\4\0\0\0\0\0\0\0\0\0\144", 16) == 0);
+    CHECK(number_at(allowances + TERM) == stored && number_at(allowances + TERM + 8) == 100);
+}
+
+static void check_comes(uint64_t now, uint64_t connection) {
+    check_open(now, connection);
+    check_answer(send(now, connection, "\1\1", 2), 0, 0, 0, CRONDELITH_NOBODY, 0);
+}
+
+/* Connection 8 asks for a session under its own id: status 5 while the lease is live, then 1. */
+static void check_own_id(uint64_t now, uint8_t status) {
+    check_answer(send(now, 8, "\6\0\0\0\1", 5), 0, 6, 0, CRONDELITH_NOBODY, 0);
+    CHECK(reply[5] == status);
+}
+
+/* Connection 8 leases id 1 at 102, in row 16, the partner's first, and extends the lease at 110. */
+static void check_lasts(uint64_t leased_until, uint64_t extended_until) {
+    const uint8_t *expiry = leases + ROW * 16;
+    check_comes(102, 8);
+    check_answer(send(102, 8, "\2\0", 2), 0, 38, 0, CRONDELITH_NOBODY, 0);
+    CHECK(number_at(reply + 30) == leased_until && number_at(expiry) == leased_until);
+    check_answer(send(110, 8, "\4" COOKIE, 25), 0, 10, 0, CRONDELITH_NOBODY, 0);
+    CHECK(number_at(reply + 2) == extended_until && number_at(expiry) == extended_until);
+    check_own_id(extended_until - 1, 5);
+    check_own_id(extended_until, 1);
+}
+
+/* The tables have this number for the term, whoever stored it, and keep it. */
+static void check_found(uint16_t number, uint64_t leased_until, uint64_t extended_until) {
+    check_fresh(0, 600);
+    allowances[TERM + 6] = (uint8_t)(number >> 8);
+    allowances[TERM + 7] = (uint8_t)number;
+    check_lasts(leased_until, extended_until);
+    CHECK(number_at(allowances + TERM) == number);
+}
+
+static void check_terms(void) {
+    check_fresh(0, 600);
+    check_lasts(702, 710);
+    check_fresh(600, 600);
+    check_lasts(702, 710);
+    check_fresh(86400, 86400);
+    check_lasts(86502, 86510);
+    check_found(0, 3702, 3710);
+    check_found(599, 702, 710);
+    check_found(601, 703, 711);
 }
 
 /* Connections 8 and 9, both of partner 1. */
@@ -148,11 +216,6 @@ static void check_leave(void) {
 static void check_row(int row, const char *bytes) {
     memcpy(expected_leases + ROW * row, bytes, ROW);
     CHECK(memcmp(leases, expected_leases, sizeof leases) == 0);
-}
-
-static void check_comes(uint64_t now, uint64_t connection) {
-    check_open(now, connection);
-    check_answer(send(now, connection, "\1\1", 2), 0, 0, 0, CRONDELITH_NOBODY, 0);
 }
 
 static void check_granted(crondelith_answer answer, const char *contents) {
@@ -277,7 +340,9 @@ static void check_awaiting(void) {
 }
 
 int main(void) {
-    check_fresh();
+    check_fresh_refusals();
+    check_terms();
+    check_fresh(3600, 3600);
     check_opens();
     check_session();
     check_allowance();
@@ -287,6 +352,7 @@ int main(void) {
     check_dead();
     check_alive();
     check_awaiting();
+    CHECK(number_at(allowances + TERM) == 3600);
     printf("crondelith_check: %d failed\n", failures);
     return failures != 0;
 }

@@ -62,6 +62,7 @@ static void make_fresh(void) {
     for (int connection = 0; connection < 64; connection++) set_connection(connection, 0, 255);
     for (int row = 0; row < 128; row++) tables.leases[40 * row + 12] = 255;
     for (int partner = 0; partner < 8; partner++) store(tables.allowances + 16 * partner, 262144);
+    store(tables.allowances + 16 * 8, 600);
     for (int record = 0; record < 9; record++) store(tables.allowances + 16 * record + 8, 100);
 }
 

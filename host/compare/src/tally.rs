@@ -1,4 +1,4 @@
-//! Counts of what a test reached, by name and answer number.
+//! Counts of what a test reached: by name and answer number, and outcomes by what they were reached with.
 
 use std::collections::BTreeMap;
 use std::fmt;
@@ -52,5 +52,41 @@ impl fmt::Display for Tally {
         self.write_rows(out)?;
         let calls: u64 = self.0.values().flat_map(BTreeMap::values).sum();
         write!(out, "{calls:>38} calls")
+    }
+}
+
+/// An outcome, and what it must have been reached with, in groups.
+pub type Outcomes = (&'static str, &'static [&'static [&'static str]]);
+
+/// How often each outcome was reached, with what.
+#[derive(Default)]
+pub struct Found(BTreeMap<&'static str, BTreeMap<&'static str, u64>>);
+
+impl Found {
+    pub fn add(&mut self, outcome: &'static str, with: &'static str) {
+        *self.0.entry(outcome).or_default().entry(with).or_default() += 1;
+    }
+
+    /// Asserts that each of these outcomes was reached with all that it names.
+    pub fn assert_reached(&self, outcomes: &[Outcomes]) {
+        for (outcome, groups) in outcomes {
+            for with in groups.iter().copied().flatten() {
+                let reached = self.0.get(outcome).is_some_and(|found| found.contains_key(with));
+                assert!(reached, "{outcome}: {with} was not reached\n{self}");
+            }
+        }
+    }
+}
+
+impl fmt::Display for Found {
+    fn fmt(&self, out: &mut fmt::Formatter) -> fmt::Result {
+        for (outcome, found) in &self.0 {
+            write!(out, "{outcome:>29}")?;
+            for (with, count) in found {
+                write!(out, "  {count} {with},")?;
+            }
+            writeln!(out)?;
+        }
+        Ok(())
     }
 }

@@ -5,9 +5,10 @@ use compare::difference::Difference;
 use compare::random::Random;
 use compare::reasons::{agree, truth};
 use compare::relay::boundary::{Call, Kind, Proved};
-use compare::relay::keepalives::{Found, CALLS_ON_ANY_TABLES};
+use compare::relay::keepalives::{self, CALLS_ON_ANY_TABLES};
 use compare::relay::runs::decoded;
 use compare::relay::{self, tables};
+use compare::tally::Found;
 use engine::relay::BUFFER;
 use model::{Relay, State, CONNECTIONS, NOBODY, PARTNERS, TIME_LIMIT};
 
@@ -98,6 +99,6 @@ fn compare(relay: &Relay, connection: usize, now: u64, found: &mut Found) -> Res
     let reason = agree::explain(&Proved, &tables, &call)?;
     truth::check(&Proved, &tables, &call, &reason)?;
     let outcome = relay::agree::call(&Proved, &tables, &call)?;
-    found.count(relay, &call, connection, &outcome);
+    keepalives::count(found, relay, &call, connection, &outcome);
     Ok(())
 }

@@ -9,7 +9,7 @@ use compare::relay::prices::{cost, row_of, ROWS};
 use compare::relay::runs::decoded;
 use engine::reasons::Reason;
 use engine::relay::{BUFFER, RANDOM};
-use model::{Relay, State, LEVEL_LIMIT, NOBODY};
+use model::{Relay, State, StoredTerm, LEVEL_LIMIT, NOBODY};
 
 const NOW: u64 = 100;
 
@@ -29,7 +29,7 @@ const UNKNOWN: u8 = 4;
 
 /// The leases' ids are the bytes of their cookies.
 fn relay() -> Relay {
-    let mut relay = Relay::fresh(NOW);
+    let mut relay = Relay::fresh(NOW, StoredTerm::default());
     relay.connections[AWAITING as usize].set_state(State::Awaiting);
     for connection in [IN_SESSION, OTHER_IN_SESSION, HOLDER, FREE] {
         relay.connections[connection as usize].set_state(State::Open);

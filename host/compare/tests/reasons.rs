@@ -46,7 +46,8 @@ fn calls_of_runs() -> Result<(), Difference> {
 fn explain_run(calls: &mut Calls, reached: &mut Reached) -> Result<(), Difference> {
     let run = Run::any(calls);
     let (start, anything) = run.start(calls);
-    let mut tables = relay::agree::call(&Proved, &anything, &start)?.lent.tables();
+    let started = relay::agree::call(&Proved, &anything, &start)?.lent.tables();
+    let mut tables = run.first_tables(calls, started);
     let mut pending = Pending::default();
     for _ in 0..CALLS_OF_EACH {
         let relay = decoded(&tables);

@@ -13,7 +13,7 @@ use compare::relay::spoiled::SPOILED_BYTES;
 use compare::{amount, forms};
 use engine::reasons::{Reason, ESTABLISH, LEASE};
 use engine::relay::BUFFER;
-use model::{partner_of, Condition, Lease, RandomBytes, Relay, State, Tables, LEVEL_LIMIT, TIME_LIMIT};
+use model::{partner_of, Condition, Lease, RandomBytes, Relay, State, StoredTerm, Tables, LEVEL_LIMIT, TIME_LIMIT};
 
 /// Explains as the second implementation does, and then spoils something.
 #[derive(Clone, Copy)]
@@ -114,7 +114,7 @@ fn message(connection: u64, bytes: &[u8]) -> Kind {
 }
 
 fn tables_at(level: u64) -> Tables {
-    let mut relay = Relay::fresh(100);
+    let mut relay = Relay::fresh(100, StoredTerm::default());
     for connection in &mut relay.connections[..4] {
         connection.set_state(State::Open);
     }

@@ -1,13 +1,14 @@
 //! Every function of the relay with every kind of argument, those of one call in every combination: sizes of tables, times,
-//! connection numbers, lengths of buffers, messages and random bytes. Each call is explained, too.
+//! terms, connection numbers, lengths of buffers, messages and random bytes. Each call of a connection is explained, too.
 
 use compare::difference::Difference;
 use compare::reasons::{agree, truth};
 use compare::relay;
 use compare::relay::boundary::{Call, Kind, Proved};
+use compare::relay::terms;
 use compare::tally::Tally;
 use engine::relay::{BUFFER, RANDOM};
-use model::{Relay, State, Tables, CONNECTIONS, TIME_LIMIT};
+use model::{Relay, State, StoredTerm, Tables, CONNECTIONS, TIME_LIMIT};
 
 /// The latest time in the tables.
 const CLOCK: u64 = 1_000;
@@ -46,7 +47,7 @@ fn messages() -> Vec<Vec<u8>> {
 
 /// Connections 0 and 1 in a session, 2 silent since it was asked, 3 awaiting, 4 closed, the last one open.
 fn tables() -> Tables {
-    let mut relay = Relay::fresh(CLOCK);
+    let mut relay = Relay::fresh(CLOCK, StoredTerm::default());
     for open in [IN_SESSION, IN_SESSION + 1, SILENT, LAST] {
         relay.connections[open as usize].set_state(State::Open);
     }
@@ -106,12 +107,10 @@ fn pairs<A: Copy, B: Copy, const M: usize, const N: usize>(
     left.into_iter().flat_map(move |one| right.into_iter().map(move |other| (one, other)))
 }
 
-/// Makes the call, explained before if it is one of a connection.
+/// Explains the call and makes it.
 fn compare(answers: &mut Tally, tables: &Tables, call: &Call) -> Result<(), Difference> {
-    if !matches!(call.kind, Kind::Fresh) {
-        let reason = agree::explain(&Proved, tables, call)?;
-        truth::check(&Proved, tables, call, &reason)?;
-    }
+    let reason = agree::explain(&Proved, tables, call)?;
+    truth::check(&Proved, tables, call, &reason)?;
     let outcome = relay::agree::call(&Proved, tables, call)?;
     answers.count(call.name(), outcome.answer.number);
     Ok(())
@@ -121,14 +120,12 @@ fn compare(answers: &mut Tally, tables: &Tables, call: &Call) -> Result<(), Diff
 fn all_arguments() -> Result<(), Difference> {
     let (mut answers, tables) = (Tally::default(), tables());
     for now in TIMES {
-        compare(&mut answers, &tables, &Call { now, kind: Kind::Fresh })?;
         for kind in NUMBERS.into_iter().flat_map(|connection| [calls(connection), messages_of(connection)].concat()) {
             compare(&mut answers, &tables, &Call { now, kind })?;
         }
     }
     println!("{answers}");
     answers.assert_just(&[
-        ("fresh", &[0, 2]),
         ("open", &[0, 2, 3, 4, 5]),
         ("message", &[0, 2, 3, 4, 5, 6, 7, 8]),
         ("close", &[0, 2, 3, 4, 5]),
@@ -142,7 +139,6 @@ fn tables_of_other_sizes() -> Result<(), Difference> {
     let mut answers = Tally::default();
     for tables in of_other_sizes() {
         for now in TIMES {
-            compare(&mut answers, &tables, &Call { now, kind: Kind::Fresh })?;
             for kind in NUMBERS.into_iter().flat_map(calls) {
                 compare(&mut answers, &tables, &Call { now, kind })?;
             }
@@ -152,6 +148,23 @@ fn tables_of_other_sizes() -> Result<(), Difference> {
         }
     }
     println!("{answers}");
-    answers.assert_just(&["fresh", "open", "message", "close", "keepalive"].map(|name| (name, &[1][..])));
+    answers.assert_just(&["open", "message", "close", "keepalive"].map(|name| (name, &[1][..])));
+    Ok(())
+}
+
+#[test]
+fn fresh_starts() -> Result<(), Difference> {
+    let mut reached = terms::Reached::default();
+    for tables in of_other_sizes().into_iter().chain([tables()]) {
+        for now in TIMES {
+            for term in terms::edges() {
+                let call = Call { now, kind: Kind::Fresh { term } };
+                let answer = relay::agree::call(&Proved, &tables, &call)?.answer;
+                reached.count_start(&tables, &call, &answer);
+            }
+        }
+    }
+    println!("{reached}");
+    reached.assert_starts();
     Ok(())
 }

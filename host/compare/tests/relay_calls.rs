@@ -1,7 +1,7 @@
 //! The relay's functions, by single calls on tables from anywhere.
 
 use compare::difference::Difference;
-use compare::relay::boundary::{Kind, Proved};
+use compare::relay::boundary::Proved;
 use compare::relay::calls::Calls;
 use compare::relay::compared::CALLS;
 use compare::relay::reached::Reached;
@@ -15,15 +15,13 @@ fn calls_on_tables_from_anywhere() -> Result<(), Difference> {
     let pool = forms::pool(&mut random);
     let mut calls = Calls { random: &mut random, pool: &pool };
     single::calls(&mut calls, amount::rounds(CALLS), |calls, tables, mut call| {
-        if calls.random.one_in(60) {
-            call.kind = Kind::Fresh;
-        }
+        calls.start_instead(&mut call);
         let outcome = agree::call(&Proved, tables, &call)?;
         reached.count(tables, &call, &outcome);
         Ok(())
     })?;
     let answers: [(_, &[u32]); 5] = [
-        ("fresh", &[0, 1, 2]),
+        ("fresh", &[0, 1, 2, 6]),
         ("open", &[0, 1, 2, 3, 4, 5, 9]),
         ("message", &[0, 1, 2, 3, 4, 5, 6, 7, 8, 9]),
         ("close", &[0, 1, 2, 3, 4, 5]),
@@ -32,5 +30,6 @@ fn calls_on_tables_from_anywhere() -> Result<(), Difference> {
     let keepalives = [&keepalives::CALLS_ON_ANY_TABLES[..], &keepalives::SENT_ON_ANY_TABLES].concat();
     reached.assert_all(&answers, &leases::ON_ANY_TABLES, &keepalives);
     reached.prices.assert_at_the_price();
+    reached.terms.assert_starts();
     Ok(())
 }

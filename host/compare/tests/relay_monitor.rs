@@ -6,7 +6,7 @@ use compare::relay::monitor::{assert_retries, Entry, Fault, Monitor};
 use compare::relay::runs::{decoded, follow, Followed};
 use compare::{amount, forms};
 use engine::relay::{Answer, NOBODY};
-use model::{partner_of, Relay, LEVEL_LIMIT};
+use model::{partner_of, Relay, StoredTerm, LEVEL_LIMIT};
 
 /// Runs of the proved relay and of others, and the calls of each.
 const RUNS_OF_PROVED: u64 = 1_000;
@@ -175,7 +175,7 @@ fn check(history: &[Entry], left: u64) -> Result<(), Fault> {
     for entry in history {
         monitor.record(entry)?;
     }
-    let mut relay = Relay::fresh(13);
+    let mut relay = Relay::fresh(13, StoredTerm::default());
     relay.allowances[2].level = left;
     monitor.check_levels(&relay)
 }

@@ -4,7 +4,7 @@ use compare::relay::agree;
 use compare::relay::boundary::{Boundary, Call, Kind, Lent, Second};
 use compare::relay::spoiled::SPOILED_BYTES;
 use engine::relay::Answer;
-use model::{Relay, State, Tables};
+use model::{Relay, State, StoredTerm, Tables};
 
 /// Answers as the second implementation does, and then spoils something.
 #[derive(Clone, Copy)]
@@ -34,7 +34,7 @@ impl Boundary for Spoiled {
 
 /// A keepalive of an open connection, which is accepted, and one that comes too late.
 fn accepted_and_refused() -> (Tables, [Call; 2]) {
-    let mut tables = Relay::fresh(100).encode();
+    let mut tables = Relay::fresh(100, StoredTerm::default()).encode();
     tables.connections[0] = 2;
     let keepalive = |now| Call {
         now,
@@ -47,7 +47,7 @@ fn accepted_and_refused() -> (Tables, [Call; 2]) {
 /// late.
 fn keepalive_calls() -> [(Tables, Call); 4] {
     [(0, 71, 100), (0, 70, 100), (1, 40, 100), (0, 70, 1 << 40)].map(|(unanswered, time, now)| {
-        let mut relay = Relay::fresh(100);
+        let mut relay = Relay::fresh(100, StoredTerm::default());
         let record = &mut relay.connections[0];
         record.set_state(State::Open);
         (record.unanswered, record.sent, record.asked) = (unanswered, time, time);

@@ -1,5 +1,5 @@
-//! Runs of hundreds of calls from a fresh start, compared call by call and followed by the monitors of the allowances and of
-//! dead connections.
+//! Runs of hundreds of calls from a fresh start, compared call by call and followed by the monitors of the allowances, of dead
+//! connections and of the term.
 
 use compare::difference::Difference;
 use compare::relay::boundary::Proved;
@@ -50,18 +50,20 @@ fn runs_of_both_relays() -> Result<(), Failure> {
         ("keepalive", &[0, 2, 3, 4, 5]),
     ];
     reached.assert_all(&answers, &leases::IN_RUNS, &keepalives::IN_RUNS);
+    reached.terms.assert_done();
     Ok(())
 }
 
 fn compare_run(calls: &mut Calls, reached: &mut Reached) -> Result<(), Failure> {
     let run = Run::any(calls);
     let (start, anything) = run.start(calls);
-    let begun = agree::call(&Proved, &anything, &start)?;
-    reached.count(&anything, &start, &begun);
+    let started = agree::call(&Proved, &anything, &start)?;
+    reached.count(&anything, &start, &started);
     let mut monitor = Monitor::new(start.now);
     let mut connection_monitor = ConnectionMonitor::default();
+    let mut term_monitor = run.term_monitor();
     let mut last_holders = LastHolders::default();
-    let mut tables = begun.lent.tables();
+    let mut tables = run.first_tables(calls, started.lent.tables());
     let mut pending = Pending::default();
     for _ in 0..CALLS_OF_EACH {
         let relay = decoded(&tables);
@@ -71,6 +73,7 @@ fn compare_run(calls: &mut Calls, reached: &mut Reached) -> Result<(), Failure> 
         reached.count_return(&relay, &call, &outcome, &last_holders);
         monitor.record(&Entry::new(&relay, &call, outcome.answer))?;
         connection_monitor.record(&call, &outcome.answer)?;
+        term_monitor.record(&call, &outcome)?;
         tables = outcome.lent.tables();
         let relay = decoded(&tables);
         last_holders.note(&relay);

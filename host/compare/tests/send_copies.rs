@@ -117,7 +117,7 @@ impl Session {
         let [connections, leases, allowances] =
             [relay::CONNECTIONS, relay::LEASES, relay::ALLOWANCES].map(|size| vec![0; size]);
         let mut session = Self { now: START, connections, leases, allowances, reply: [0; BUFFER] };
-        assert_eq!(relay::fresh(session.tables(), START).number, 0);
+        assert_eq!(relay::fresh(session.tables(), START, 0).number, 0);
         for connection in [CALLER, HOLDER] {
             let now = session.now;
             assert_eq!(relay::open(session.tables(), now, connection, &mut [0; BUFFER]).number, 0);

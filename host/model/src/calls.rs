@@ -3,12 +3,12 @@
 
 use codec::{encode, Message};
 
-use crate::checks::{check, Action, Call, Kind, Passed, Refusal};
+use crate::checks::{check, check_fresh, Action, Call, Kind, Passed, Refusal};
 use crate::keepalives::Due;
 use crate::records::{Connection, Session, State};
 use crate::relay::{Relay, Tables};
 use crate::requests::{RandomBytes, Request};
-use crate::{NOBODY, TIME_LIMIT};
+use crate::NOBODY;
 
 #[derive(Clone, Copy, Debug, PartialEq, Eq)]
 pub struct Answer {
@@ -58,14 +58,9 @@ fn bytes(message: Message) -> Vec<u8> {
     encode(&message).expect("the relay's own messages are in range")
 }
 
-/// Makes a fresh relay: "checks 1 and 2 and no trays".
-pub fn fresh(tables: &mut Tables, now: u64) -> Answer {
-    let done = match Relay::decode(tables) {
-        None => Err(Refusal::TableSize),
-        Some(_) if now >= TIME_LIMIT => Err(Refusal::Time),
-        Some(_) => Ok(Relay::fresh(now).encode()),
-    };
-    let done = done.map(|made| *tables = made);
+/// Makes a fresh relay, whose leases last so many seconds; 0 for the usual term.
+pub fn fresh(tables: &mut Tables, now: u64, term: u64) -> Answer {
+    let done = check_fresh(tables, now, term).map(|term| *tables = Relay::fresh(now, term).encode());
     deliver(done.map(|()| Sent::default()), &mut [], &mut [])
 }
 

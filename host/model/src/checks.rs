@@ -3,6 +3,7 @@
 use crate::records::State;
 use crate::relay::{Relay, Tables, CONNECTIONS};
 use crate::requests::{RandomBytes, Request};
+use crate::terms::StoredTerm;
 use crate::TIME_LIMIT;
 
 /// The least reply buffer, and the least relay buffer.
@@ -16,7 +17,8 @@ pub enum Refusal {
     NoSuchConnection = 3,
     WrongState = 4,
     Buffers = 5,
-    NotFromPeers = 6,
+    /// What is brought is no message that peers send, or no term.
+    Invalid = 6,
     NotPermitted = 7,
     NoSession = 8,
     Allowance = 9,
@@ -75,6 +77,14 @@ pub(crate) fn check<'a>(tables: &Tables, call: &Call<'a>) -> Result<(Relay, Pass
     Ok((relay, Passed { now: call.now, caller, action, received: call.kind.received() }))
 }
 
+/// The checks of a fresh start: "checks 1 and 2 and no trays", no time being "below the latest", and "other terms are
+/// answered with 6, after checks 1 and 2". Gives the term to store.
+pub(crate) fn check_fresh(tables: &Tables, now: u64, term: u64) -> Result<StoredTerm, Refusal> {
+    Relay::decode(tables).ok_or(Refusal::TableSize)?;
+    refuse_if(now >= TIME_LIMIT, Refusal::Time)?;
+    StoredTerm::named(term).ok_or(Refusal::Invalid)
+}
+
 fn refuse_if(applies: bool, refusal: Refusal) -> Result<(), Refusal> {
     if applies {
         Err(refusal)
@@ -113,7 +123,7 @@ impl Relay {
 
     /// Checks 6 to 8.
     fn check_message<'a>(&self, caller: usize, message: &'a [u8]) -> Result<Request<'a>, Refusal> {
-        let request = Request::decode(message).ok_or(Refusal::NotFromPeers)?;
+        let request = Request::decode(message).ok_or(Refusal::Invalid)?;
         refuse_if(!request.permitted_in(self.connections[caller].state()), Refusal::NotPermitted)?;
         refuse_if(request.needs_session() && self.in_session_with(caller).is_none(), Refusal::NoSession)?;
         Ok(request)

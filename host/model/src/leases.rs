@@ -3,9 +3,6 @@
 use crate::relay::{partner_of, partner_of_row, Relay};
 use crate::requests::RandomBytes;
 
-/// Seconds that a lease lasts from when it is granted, renewed or extended.
-const TERM: u64 = 3_600;
-
 /// The four conditions of a lease, each with what it yields.
 #[derive(Clone, Copy, Debug)]
 pub struct Offer {
@@ -81,21 +78,26 @@ impl Relay {
     ) -> Option<(u32, [u8; 24], u64)> {
         let (new_row, new_id) = self.offer(caller, random, now).accepted()?;
         let renewed = cookie.and_then(|cookie| self.row_to_renew(partner_of(caller), cookie, now));
+        let expiry = self.expiry_from(now);
         let lease = &mut self.leases[renewed.unwrap_or(new_row)];
         if renewed.is_none() {
             (lease.id, lease.cookie) = (new_id, random.cookie());
         }
-        lease.holder = caller as u8;
-        lease.expiry = now + TERM;
+        (lease.holder, lease.expiry) = (caller as u8, expiry);
         Some((lease.id, lease.cookie, lease.expiry))
     }
 
     /// Extends the lease and gives its expiry.
     pub(crate) fn extend(&mut self, caller: usize, cookie: &[u8], now: u64) -> Option<u64> {
         let row = self.row_to_extend(caller, cookie, now)?;
-        let lease = &mut self.leases[row];
-        lease.expiry = now + TERM;
-        Some(lease.expiry)
+        self.leases[row].expiry = self.expiry_from(now);
+        Some(self.leases[row].expiry)
+    }
+
+    /// The expiry of a lease that is granted now: "Extensions and Item 2's renewals use the same term." So an extension can
+    /// make a lease end earlier than it would have.
+    fn expiry_from(&self, now: u64) -> u64 {
+        now + self.common.term.seconds()
     }
 
     /// "extended exactly if a live row of the partner, held by this connection, has that cookie (the lowest such row)"

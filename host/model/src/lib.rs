@@ -14,16 +14,18 @@ mod relay;
 mod renewals;
 mod requests;
 mod sessions;
+mod terms;
 
 pub use calls::{close, fresh, keepalive, message, open, Answer};
 pub use checks::Refusal;
 pub use keepalives::{Due, ANSWER_TIMEOUT, KEEPALIVE_TIMEOUT};
 pub use leases::{Condition, Offer};
 pub use plan::BASE_COST;
-pub use records::{Allowance, Connection, Lease, Session, State};
+pub use records::{Allowance, Common, Connection, Lease, Session, State};
 pub use relay::{partner_of, partner_of_row, Relay, Tables, CONNECTIONS, LEASES, PARTNERS};
 pub use renewals::Part;
 pub use requests::{RandomBytes, Request};
+pub use terms::{StoredTerm, OLD_TERM, TERMS, USUAL_TERM};
 
 /// No connection: as a peer, a holder or a destination.
 pub const NOBODY: u8 = 255;

@@ -1,6 +1,7 @@
 //! The records of the three tables. Every byte is kept, used or not, so that what is decoded and encoded again is the
 //! same: "In a record that a rule changes, bytes that it doesn't name stay."
 
+use crate::terms::StoredTerm;
 use crate::{LEVEL_LIMIT, NOBODY, REFILL};
 
 pub trait Record: Sized {
@@ -149,7 +150,7 @@ impl Record for Lease {
     }
 }
 
-/// A partner's allowance. The ninth record is the relay's clock: `updated` is the scope's latest reading.
+/// A partner's allowance.
 #[derive(Clone, Debug, PartialEq, Eq)]
 pub struct Allowance {
     pub level: u64,
@@ -177,5 +178,28 @@ impl Record for Allowance {
     fn encode(&self, to: &mut Vec<u8>) {
         to.extend(self.level.to_be_bytes());
         to.extend(self.updated.to_be_bytes());
+    }
+}
+
+/// The ninth record beside the eight allowances, which is no partner's and no allowance: "The ninth allowance record's
+/// level keeps the term", and its moment is the clock.
+#[derive(Clone, Debug, PartialEq, Eq)]
+pub struct Common {
+    pub term: StoredTerm,
+    /// The scope's latest reading.
+    pub clock: u64,
+}
+
+impl Record for Common {
+    const LENGTH: usize = 16;
+
+    fn decode(mut bytes: &[u8]) -> Self {
+        let [term, clock] = [(); 2].map(|()| u64::from_be_bytes(take(&mut bytes)));
+        Self { term: StoredTerm(term), clock }
+    }
+
+    fn encode(&self, to: &mut Vec<u8>) {
+        to.extend(self.term.0.to_be_bytes());
+        to.extend(self.clock.to_be_bytes());
     }
 }

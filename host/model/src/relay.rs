@@ -2,14 +2,13 @@
 
 use std::ops::Range;
 
-use crate::records::{Allowance, Connection, Lease, Record, State};
+use crate::records::{Allowance, Common, Connection, Lease, Record, State};
+use crate::terms::StoredTerm;
 use crate::LEVEL_LIMIT;
 
 pub const PARTNERS: usize = 8;
 pub const CONNECTIONS: usize = 64;
 pub const LEASES: usize = 128;
-/// The place of the clock among the allowances.
-const CLOCK: usize = PARTNERS;
 
 /// The scope's board: three tables of bytes, here of any lengths.
 #[derive(Clone, Debug, PartialEq, Eq)]
@@ -23,47 +22,48 @@ pub struct Tables {
 pub struct Relay {
     pub connections: Vec<Connection>,
     pub leases: Vec<Lease>,
-    /// The eight partners', then the clock.
+    /// Each partner's.
     pub allowances: Vec<Allowance>,
+    /// What stands behind them in their table.
+    pub common: Common,
 }
 
 impl Relay {
-    /// "the eight partners' levels 262,144, the ninth 0, every moment t"
-    pub fn fresh(now: u64) -> Self {
-        let mut allowances = vec![Allowance { level: LEVEL_LIMIT, updated: now }; PARTNERS];
-        allowances.push(Allowance { level: 0, updated: now });
+    /// "the eight partners' levels 262,144, [..] every moment t", and the ninth level, once 0, "keeps the term"
+    pub fn fresh(now: u64, term: StoredTerm) -> Self {
         Self {
             connections: vec![Connection::fresh(State::Closed); CONNECTIONS],
             leases: vec![Lease::fresh(); LEASES],
-            allowances,
+            allowances: vec![Allowance { level: LEVEL_LIMIT, updated: now }; PARTNERS],
+            common: Common { term, clock: now },
         }
     }
 
     /// None where a table has another size than "4,096, 5,120 or 144 bytes".
     pub fn decode(tables: &Tables) -> Option<Self> {
+        let (allowances, common) = tables.allowances.split_at_checked(PARTNERS * Allowance::LENGTH)?;
         Some(Self {
             connections: decode_all(&tables.connections, CONNECTIONS)?,
             leases: decode_all(&tables.leases, LEASES)?,
-            allowances: decode_all(&tables.allowances, PARTNERS + 1)?,
+            allowances: decode_all(allowances, PARTNERS)?,
+            common: decode_all(common, 1)?.pop()?,
         })
     }
 
     pub fn encode(&self) -> Tables {
-        Tables {
-            connections: encode_all(&self.connections),
-            leases: encode_all(&self.leases),
-            allowances: encode_all(&self.allowances),
-        }
+        let mut allowances = encode_all(&self.allowances);
+        self.common.encode(&mut allowances);
+        Tables { connections: encode_all(&self.connections), leases: encode_all(&self.leases), allowances }
     }
 
     /// The scope's latest reading.
     pub fn clock(&self) -> u64 {
-        self.allowances[CLOCK].updated
+        self.common.clock
     }
 
-    /// "On 0 the clock cell takes the reading"; the level beside it stays.
+    /// "On 0 the clock cell takes the reading"; the term beside it stays.
     pub fn set_clock(&mut self, now: u64) {
-        self.allowances[CLOCK].updated = now;
+        self.common.clock = now;
     }
 
     pub fn is_open(&self, connection: usize) -> bool {

@@ -19,7 +19,7 @@ impl Explain for Proved {
         };
         let (message, random) = (lent.message.lend(), lent.random.lend());
         match call.kind {
-            Kind::Fresh => no_call(),
+            Kind::Fresh { .. } => no_call(),
             Kind::Open { connection, reply } => reasons::open(tables, call.now, connection, reply as u64),
             Kind::Message { connection, reply, relay, .. } => {
                 reasons::message(tables, call.now, connection, message, random, reply as u64, relay as u64)
@@ -39,7 +39,7 @@ impl Explain for Second {
         let (tables, now) = (&lent.tables(), call.now);
         let (bytes, random) = (lent.message.lend(), lent.random.lend());
         let reason = match call.kind {
-            Kind::Fresh => no_call(),
+            Kind::Fresh { .. } => no_call(),
             Kind::Open { connection, reply } => open(tables, now, connection, reply as u64),
             Kind::Message { connection, reply, relay, .. } => {
                 message(tables, now, connection, bytes, random, reply as u64, relay as u64)

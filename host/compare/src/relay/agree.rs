@@ -6,7 +6,7 @@ use model::Tables;
 use super::boundary::{Boundary, Call, Kind, Lent, Second};
 use crate::difference::{same, same_bytes, shown, Difference};
 
-/// The answer on which the two agree, and all that was lent, afterwards.
+/// The answer to a call, and all that was lent, afterwards.
 pub struct Outcome {
     pub answer: Answer,
     pub lent: Lent,

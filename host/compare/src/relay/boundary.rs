@@ -17,7 +17,7 @@ pub struct Call {
 
 #[derive(Clone, Debug)]
 pub enum Kind {
-    Fresh,
+    Fresh { term: u64 },
     Open { connection: u64, reply: usize },
     Message { connection: u64, message: Vec<u8>, random: Vec<u8>, reply: usize, relay: usize },
     Close { connection: u64, relay: usize },
@@ -28,7 +28,7 @@ impl Kind {
     /// The number of the caller's connection.
     pub fn connection_mut(&mut self) -> Option<&mut u64> {
         match self {
-            Self::Fresh => None,
+            Self::Fresh { .. } => None,
             Self::Open { connection, .. }
             | Self::Message { connection, .. }
             | Self::Close { connection, .. }
@@ -39,7 +39,7 @@ impl Kind {
     /// The lengths of the buffers that are only written.
     pub fn rooms_mut(&mut self) -> Vec<&mut usize> {
         match self {
-            Self::Fresh => vec![],
+            Self::Fresh { .. } => vec![],
             Self::Open { reply: room, .. } | Self::Close { relay: room, .. } => vec![room],
             Self::Message { reply, relay, .. } | Self::Keepalive { reply, relay, .. } => vec![reply, relay],
         }
@@ -50,7 +50,7 @@ impl Call {
     /// The call's name, for counts.
     pub fn name(&self) -> &'static str {
         match self.kind {
-            Kind::Fresh => "fresh",
+            Kind::Fresh { .. } => "fresh",
             Kind::Open { .. } => "open",
             Kind::Message { .. } => "message",
             Kind::Close { .. } => "close",
@@ -61,7 +61,7 @@ impl Call {
     /// The caller's connection, if there is such a one.
     pub fn caller(&self) -> Option<usize> {
         let connection = match self.kind {
-            Kind::Fresh => return None,
+            Kind::Fresh { .. } => return None,
             Kind::Open { connection, .. }
             | Kind::Message { connection, .. }
             | Kind::Close { connection, .. }
@@ -75,7 +75,7 @@ impl Call {
         match &self.kind {
             Kind::Open { .. } => true,
             Kind::Message { message, .. } => message.first() != Some(&9),
-            Kind::Fresh | Kind::Close { .. } | Kind::Keepalive { .. } => false,
+            Kind::Fresh { .. } | Kind::Close { .. } | Kind::Keepalive { .. } => false,
         }
     }
 
@@ -97,7 +97,7 @@ impl Call {
     /// The lengths of the reply and the relay buffer.
     fn rooms(&self) -> [usize; 2] {
         match self.kind {
-            Kind::Fresh => [0, 0],
+            Kind::Fresh { .. } => [0, 0],
             Kind::Open { reply, .. } => [reply, 0],
             Kind::Message { reply, relay, .. } | Kind::Keepalive { reply, relay, .. } => [reply, relay],
             Kind::Close { relay, .. } => [0, relay],
@@ -183,7 +183,7 @@ impl Boundary for Proved {
         let (message, random) = (lent.message.lend(), lent.random.lend());
         let (reply, relay) = (lent.reply.lend_mut(), lent.relay.lend_mut());
         match call.kind {
-            Kind::Fresh => relay::fresh(tables, call.now),
+            Kind::Fresh { term } => relay::fresh(tables, call.now, term),
             Kind::Open { connection, .. } => relay::open(tables, call.now, connection, reply),
             Kind::Message { connection, .. } => {
                 relay::message(tables, call.now, connection, message, random, reply, relay)
@@ -203,7 +203,7 @@ impl Boundary for Second {
         let (message, random) = (lent.message.lend(), lent.random.lend());
         let (reply, relay) = (lent.reply.lend_mut(), lent.relay.lend_mut());
         let answer = match call.kind {
-            Kind::Fresh => model::fresh(&mut tables, call.now),
+            Kind::Fresh { term } => model::fresh(&mut tables, call.now, term),
             Kind::Open { connection, .. } => model::open(&mut tables, call.now, connection, reply),
             Kind::Message { connection, .. } => {
                 model::message(&mut tables, call.now, connection, message, random, reply, relay)

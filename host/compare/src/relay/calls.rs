@@ -8,7 +8,7 @@ use model::{ANSWER_TIMEOUT, KEEPALIVE_TIMEOUT};
 use super::boundary::{Call, Kind};
 use super::mistakes::TIMES_TOO_LATE;
 use super::prices::row_of;
-use super::tables;
+use super::{tables, terms};
 use crate::random::Random;
 
 /// Times at which calls are made on tables from anywhere.
@@ -43,6 +43,14 @@ impl Calls<'_> {
             self.spoil(&mut call, relay.clock());
         }
         call
+    }
+
+    /// Makes it a fresh start instead, at times, often too late.
+    pub fn start_instead(&mut self, call: &mut Call) {
+        if self.random.one_in(30) {
+            call.now = self.random.mostly(call.now, &TIMES_TOO_LATE);
+            call.kind = Kind::Fresh { term: terms::any(self.random) };
+        }
     }
 
     /// A connection, more often than the tables have it one in a session.
@@ -111,6 +119,22 @@ impl Calls<'_> {
     pub fn cut(&mut self, relay: &Relay, now: u64, partner: usize) -> Option<Call> {
         let holders: Vec<usize> = relay.live_rows(partner, now).filter_map(|(row, _)| relay.holder_of(row)).collect();
         (!holders.is_empty()).then(|| Call { now, kind: close(self.random.choice(&holders)) })
+    }
+
+    /// A request of who holds a lease of the partner, in its last second or at its expiry, that shows whether it is live: to
+    /// extend it, or for a session with itself.
+    pub fn at_the_end(&mut self, relay: &Relay, now: u64, partner: usize) -> Option<Call> {
+        let live = relay.live_rows(partner, now);
+        let held: Vec<(usize, &Lease)> = live.filter_map(|(row, lease)| Some((relay.holder_of(row)?, lease))).collect();
+        if held.is_empty() {
+            return None;
+        }
+        let (holder, lease) = self.random.choice(&held);
+        let time = lease.expiry - self.random.choice(&[0, 1]);
+        let extension = [&[4], &lease.cookie[..]].concat();
+        let establish = [&[6], &lease.id.to_be_bytes()[..]].concat();
+        let bytes = if self.random.one_in(2) { extension } else { establish };
+        Some(Call { now: time.min(TIME_LIMIT - 1), kind: message(holder, bytes, self.any_random_bytes()) })
     }
 
     /// A keepalive call for a connection of the partner, at or around the time when something is due for it.

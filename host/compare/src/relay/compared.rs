@@ -2,6 +2,7 @@
 
 use super::boundary::Boundary;
 use super::calls::Calls;
+use super::monitor::Fault;
 use super::runs::{decoded, Pending, Run};
 use super::{agree, single};
 use crate::difference::Difference;
@@ -16,7 +17,10 @@ pub fn calls(subject: &impl Boundary) -> Result<(), Difference> {
     let mut random = amount::random();
     let pool = forms::pool(&mut random);
     let mut calls = Calls { random: &mut random, pool: &pool };
-    single::calls(&mut calls, amount::rounds(CALLS), |_, tables, call| agree::call(subject, tables, &call).map(drop))
+    single::calls(&mut calls, amount::rounds(CALLS), |calls, tables, mut call| {
+        calls.start_instead(&mut call);
+        agree::call(subject, tables, &call).map(drop)
+    })
 }
 
 pub fn runs(subject: &impl Boundary) -> Result<(), Difference> {
@@ -29,7 +33,8 @@ pub fn runs(subject: &impl Boundary) -> Result<(), Difference> {
 fn run(subject: &impl Boundary, calls: &mut Calls) -> Result<(), Difference> {
     let run = Run::any(calls);
     let (start, anything) = run.start(calls);
-    let mut tables = agree::call(subject, &anything, &start)?.lent.tables();
+    let started = agree::call(subject, &anything, &start)?.lent.tables();
+    let mut tables = run.first_tables(calls, started);
     let mut pending = Pending::default();
     for _ in 0..CALLS_OF_EACH {
         let call = run.next(calls, &decoded(&tables), &mut pending);
@@ -38,4 +43,15 @@ fn run(subject: &impl Boundary, calls: &mut Calls) -> Result<(), Difference> {
         pending.note(calls, call, &outcome.answer);
     }
     Ok(())
+}
+
+/// As many runs of the relay by itself, each followed by a monitor, until that finds a fault.
+pub fn followed<B: Boundary>(
+    subject: &B,
+    mut follow: impl FnMut(&B, &mut Calls, usize) -> Result<(), Fault>,
+) -> Result<(), Fault> {
+    let mut random = amount::random();
+    let pool = forms::pool(&mut random);
+    let mut calls = Calls { random: &mut random, pool: &pool };
+    (0..amount::rounds(RUNS)).try_for_each(|_| follow(subject, &mut calls, CALLS_OF_EACH))
 }

@@ -51,7 +51,7 @@ impl ConnectionMonitor {
                 }
                 history.asked = history.asked.or((due == (1, 0)).then_some(call.now));
             }
-            Kind::Fresh | Kind::Close { .. } => {}
+            Kind::Fresh { .. } | Kind::Close { .. } => {}
         }
         self.note_sent(call.now, caller, answer);
         Ok(())

@@ -1,17 +1,12 @@
 //! Counts of what concerns keepalives: outcomes of the keepalive call with each kind of record, messages that answer one or
 //! are refused, and messages sent.
 
-use std::collections::BTreeMap;
-use std::fmt;
-
 use model::{Connection, Due, Relay, Request, ANSWER_TIMEOUT, KEEPALIVE_TIMEOUT};
 
 use super::agree::Outcome;
 use super::boundary::{Call, Kind};
 use crate::forms::{type_name, TYPES};
-
-/// An outcome, and what it must have been reached with, in groups.
-pub type Outcomes = (&'static str, &'static [&'static [&'static str]]);
+use crate::tally::{Found, Outcomes};
 
 /// The names of [`unanswered`].
 const NONE_UNANSWERED: [&str; 4] = ["byte 2 is 0", "byte 2 is 2", "byte 2 is 255", "byte 2 is another"];
@@ -81,94 +76,61 @@ pub const IN_RUNS: [Outcomes; 14] = [
     ("nothing sent to the sender of", &[&WITHOUT_REPLY]),
 ];
 
-/// How often each outcome was reached, with what.
-#[derive(Default)]
-pub struct Found(BTreeMap<&'static str, BTreeMap<&'static str, u64>>);
-
-impl Found {
-    fn add(&mut self, outcome: &'static str, with: &'static str) {
-        *self.0.entry(outcome).or_default().entry(with).or_default() += 1;
+/// Counts a call for this connection, on the relay as it was before.
+pub fn count(found: &mut Found, relay: &Relay, call: &Call, caller: usize, outcome: &Outcome) {
+    match &call.kind {
+        Kind::Keepalive { .. } if outcome.answer.number == 0 => count_call(found, relay, caller, call.now),
+        Kind::Message { message, .. } => count_message(found, &relay.connections[caller], message, call.now, outcome),
+        _ => {}
     }
+    count_sent(found, relay, call, caller, outcome);
+}
 
-    /// Counts a call for this connection, on the relay as it was before.
-    pub fn count(&mut self, relay: &Relay, call: &Call, caller: usize, outcome: &Outcome) {
-        match &call.kind {
-            Kind::Keepalive { .. } if outcome.answer.number == 0 => self.count_call(relay, caller, call.now),
-            Kind::Message { message, .. } => self.count_message(&relay.connections[caller], message, call.now, outcome),
-            _ => {}
-        }
-        self.count_sent(relay, call, caller, outcome);
-    }
-
-    fn count_call(&mut self, relay: &Relay, caller: usize, now: u64) {
-        let record = &relay.connections[caller];
-        let states = match record.due(now) {
-            Due::Close => ["closed in session", "closed, no session", "closed, awaiting"],
-            Due::Ask => ["asked in session", "asked, no session", "asked, awaiting"],
-            Due::Nothing if record.is_unanswered() => ["not yet closed"; 3],
-            Due::Nothing => ["not yet asked"; 3],
-        };
-        let state = match relay.in_session_with(caller) {
-            Some(_) => 0,
-            None if relay.is_open(caller) => 1,
-            None => 2,
-        };
-        for kind in [unanswered(record), sent(record, now), asked(record, now)] {
-            self.add(states[state], kind);
-        }
-    }
-
-    /// A message that answers a keepalive, or would if it weren't refused; and one whose sender is sent nothing, though
-    /// that would show.
-    fn count_message(&mut self, record: &Connection, message: &[u8], now: u64, outcome: &Outcome) {
-        match (outcome.answer.number, record.unanswered) {
-            (0, 0) => {}
-            (0, 1) => self.add("answered by", type_name(message)),
-            (0, _) => self.add("another byte 2 cleared by", type_name(message)),
-            (number, 1) => self.add("unanswered, refused with", CHECKS[number as usize]),
-            _ => {}
-        }
-        let refuses_version = matches!(Request::decode(message), Some(Request::VersionAnswer { ok: false }));
-        if outcome.answer.number == 0 && outcome.reply().is_empty() && record.sent != now && !refuses_version {
-            self.add("nothing sent to the sender of", type_name(message));
-        }
-    }
-
-    /// What is sent where the time of the last message was another one.
-    fn count_sent(&mut self, relay: &Relay, call: &Call, caller: usize, outcome: &Outcome) {
-        let is_new = |connection: usize| relay.connections[connection].sent != call.now;
-        if !outcome.reply().is_empty() && is_new(caller) {
-            self.add("replied", type_name(outcome.reply()));
-        }
-        if !outcome.relay().is_empty() && is_new(outcome.answer.destination as usize) {
-            self.add("relayed", type_name(outcome.relay()));
-            if outcome.relay() == [10] {
-                self.add("session ended by", call.name());
-            }
-        }
-    }
-
-    /// Asserts that each of these outcomes was reached with all that it names.
-    pub fn assert_reached(&self, outcomes: &[Outcomes]) {
-        for (outcome, groups) in outcomes {
-            for with in groups.iter().copied().flatten() {
-                let reached = self.0.get(outcome).is_some_and(|found| found.contains_key(with));
-                assert!(reached, "{outcome}: {with} was not reached\n{self}");
-            }
-        }
+fn count_call(found: &mut Found, relay: &Relay, caller: usize, now: u64) {
+    let record = &relay.connections[caller];
+    let states = match record.due(now) {
+        Due::Close => ["closed in session", "closed, no session", "closed, awaiting"],
+        Due::Ask => ["asked in session", "asked, no session", "asked, awaiting"],
+        Due::Nothing if record.is_unanswered() => ["not yet closed"; 3],
+        Due::Nothing => ["not yet asked"; 3],
+    };
+    let state = match relay.in_session_with(caller) {
+        Some(_) => 0,
+        None if relay.is_open(caller) => 1,
+        None => 2,
+    };
+    for kind in [unanswered(record), sent(record, now), asked(record, now)] {
+        found.add(states[state], kind);
     }
 }
 
-impl fmt::Display for Found {
-    fn fmt(&self, out: &mut fmt::Formatter) -> fmt::Result {
-        for (outcome, found) in &self.0 {
-            write!(out, "{outcome:>29}")?;
-            for (with, count) in found {
-                write!(out, "  {count} {with},")?;
-            }
-            writeln!(out)?;
+/// A message that answers a keepalive, or would if it weren't refused; and one whose sender is sent nothing, though that
+/// would show.
+fn count_message(found: &mut Found, record: &Connection, message: &[u8], now: u64, outcome: &Outcome) {
+    match (outcome.answer.number, record.unanswered) {
+        (0, 0) => {}
+        (0, 1) => found.add("answered by", type_name(message)),
+        (0, _) => found.add("another byte 2 cleared by", type_name(message)),
+        (number, 1) => found.add("unanswered, refused with", CHECKS[number as usize]),
+        _ => {}
+    }
+    let refuses_version = matches!(Request::decode(message), Some(Request::VersionAnswer { ok: false }));
+    if outcome.answer.number == 0 && outcome.reply().is_empty() && record.sent != now && !refuses_version {
+        found.add("nothing sent to the sender of", type_name(message));
+    }
+}
+
+/// What is sent where the time of the last message was another one.
+fn count_sent(found: &mut Found, relay: &Relay, call: &Call, caller: usize, outcome: &Outcome) {
+    let is_new = |connection: usize| relay.connections[connection].sent != call.now;
+    if !outcome.reply().is_empty() && is_new(caller) {
+        found.add("replied", type_name(outcome.reply()));
+    }
+    if !outcome.relay().is_empty() && is_new(outcome.answer.destination as usize) {
+        found.add("relayed", type_name(outcome.relay()));
+        if outcome.relay() == [10] {
+            found.add("session ended by", call.name());
         }
-        Ok(())
     }
 }
 

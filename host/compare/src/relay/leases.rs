@@ -129,6 +129,15 @@ impl<'a> Asked<'a> {
         self.relay.row_to_renew(self.partner(), self.cookie?, self.now)
     }
 
+    /// The row of a new lease, if the lease is accepted and none is renewed.
+    pub fn new_row(&self) -> Option<usize> {
+        self.offer().row
+    }
+
+    fn offer(&self) -> Offer {
+        self.relay.offer(self.caller, self.random, self.now)
+    }
+
     /// The rows of the partner, or of its neighbours, that meet all parts of the sentence but these.
     fn rows_that_fail<'s>(&'s self, own: bool, parts: &'s [Part]) -> impl Iterator<Item = usize> + 's {
         let cookie = self.cookie.unwrap_or_default();
@@ -144,7 +153,7 @@ impl<'a> Asked<'a> {
 
     /// Counts what a request reached that passes the checks.
     pub fn count(&self, effects: &mut Tally) {
-        let offer = self.relay.offer(self.caller, self.random, self.now);
+        let offer = self.offer();
         let failed: Vec<_> = offer.failed().collect();
         match (&failed[..], self.row_to_renew()) {
             ([], Some(row)) => self.count_renewed(effects, row),

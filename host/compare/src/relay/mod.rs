@@ -1,5 +1,5 @@
-//! The proved relay and the second one: calls to make of both, what they reach, and monitors of the allowances and of dead
-//! connections.
+//! The proved relay and the second one: calls to make of both, what they reach, and monitors of the allowances, of dead
+//! connections and of the term.
 
 pub mod agree;
 pub mod boundary;
@@ -10,9 +10,12 @@ pub mod keepalives;
 pub mod leases;
 mod mistakes;
 pub mod monitor;
+pub mod noticed;
 pub mod prices;
 pub mod reached;
 pub mod runs;
 pub mod single;
 pub mod spoiled;
 pub mod tables;
+pub mod term_monitor;
+pub mod terms;

@@ -58,7 +58,7 @@ impl Entry {
 /// as no call costs more than the limit.
 fn passes(relay: &Relay, call: &Call) -> bool {
     let mut unspent = relay.clone();
-    for allowance in &mut unspent.allowances[..PARTNERS] {
+    for allowance in &mut unspent.allowances {
         allowance.level = LEVEL_LIMIT;
     }
     Second.call(call, &mut Lent::new(&unspent.encode(), call)).number == 0

@@ -74,7 +74,7 @@ pub fn row_of(relay: &Relay, call: &Call) -> Option<Row> {
     let (message, random) = match &call.kind {
         Kind::Open { .. } => return Some(OPEN),
         Kind::Message { message, random, .. } => (message, RandomBytes::new(random)?),
-        Kind::Fresh | Kind::Close { .. } | Kind::Keepalive { .. } => return None,
+        Kind::Fresh { .. } | Kind::Close { .. } | Kind::Keepalive { .. } => return None,
     };
     match Request::decode(message)? {
         Request::VersionAnswer { ok } => Some(VERSION[usize::from(ok)]),

@@ -6,10 +6,9 @@ use model::{Relay, Request, Tables, PARTNERS};
 
 use super::agree::Outcome;
 use super::boundary::{Call, Kind};
-use super::keepalives::{Found, Outcomes};
 use super::leases::{self, Asked, LastHolders};
-use super::prices;
-use crate::tally::Tally;
+use super::{keepalives, prices, terms};
+use crate::tally::{Found, Outcomes, Tally};
 
 /// The name under which each status of an establish request is counted.
 const STATUS: &str = "establish status";
@@ -43,17 +42,21 @@ pub struct Reached {
     keepalives: Found,
     /// What charged calls cost.
     pub prices: prices::Reached,
+    /// What concerns the term.
+    pub terms: terms::Reached,
 }
 
 impl Reached {
     /// Counts a call that was made on these tables, by its answer and its effects.
     pub fn count(&mut self, tables: &Tables, call: &Call, outcome: &Outcome) {
         self.answers.count(call.name(), outcome.answer.number);
+        self.terms.count_start(tables, call, &outcome.answer);
         if let (Some(relay), Some(caller)) = (Relay::decode(tables), call.caller()) {
-            self.keepalives.count(&relay, call, caller, outcome);
+            keepalives::count(&mut self.keepalives, &relay, call, caller, outcome);
             self.prices.count(&relay, call, &outcome.answer);
             if outcome.answer.number == 0 {
                 count_effects(&mut self.effects, &relay, call, caller, outcome);
+                self.terms.count(&relay, call, caller, outcome);
             }
         }
     }
@@ -66,7 +69,7 @@ impl Reached {
     }
 
     /// Asserts that each function had just these answers, and that all effects were reached, these and these outcomes of
-    /// keepalives among them, and every price.
+    /// keepalives among them, every price, and leases of every term.
     pub fn assert_all(&self, answers: &[(&str, &[u32])], further: &[&str], keepalives: &[Outcomes]) {
         println!("{self}");
         self.answers.assert_just(answers);
@@ -78,13 +81,14 @@ impl Reached {
         }
         self.keepalives.assert_reached(keepalives);
         self.prices.assert_rows();
+        self.terms.assert_leases();
     }
 }
 
 impl fmt::Display for Reached {
     fn fmt(&self, out: &mut fmt::Formatter) -> fmt::Result {
         self.effects.write_rows(out)?;
-        writeln!(out, "\n{}", self.keepalives)?;
+        writeln!(out, "\n{}\n{}", self.keepalives, self.terms)?;
         self.answers.fmt(out)
     }
 }
@@ -98,7 +102,7 @@ fn count_effects(effects: &mut Tally, relay: &Relay, call: &Call, caller: usize,
             }
         }
         Kind::Close { .. } => count_close(effects, relay, caller, outcome),
-        Kind::Open { .. } | Kind::Fresh => effects.count("opened", 0),
+        Kind::Open { .. } | Kind::Fresh { .. } => effects.count("opened", 0),
         Kind::Keepalive { .. } => {}
     }
     let spent = |partner: usize| relay.allowances[partner].level_at(call.now) < model::BASE_COST;

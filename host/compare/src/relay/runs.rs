@@ -1,15 +1,18 @@
-//! Runs: a fresh start, and then calls one after the other on the tables that it left.
+//! Runs: a fresh start, and then calls one after the other on the tables that it left, or on such as others would have left.
 
 use std::collections::HashSet;
 
 use engine::relay::{Answer, ALLOWANCES, CONNECTIONS, LEASES};
-use model::{Relay, Tables, PARTNERS, TIME_LIMIT};
+use model::{partner_of_row, Lease, Relay, StoredTerm, Tables, NOBODY, PARTNERS, TIME_LIMIT};
 
+use super::agree::Outcome;
 use super::boundary::{Boundary, Call, Kind, Lent};
 use super::calls::{connections_of, Calls, LONG_DATA, SHORT_DATA};
 use super::connection_monitor::ConnectionMonitor;
 use super::monitor::{Entry, Fault, Monitor};
-use super::prices;
+use super::term_monitor::TermMonitor;
+use super::{prices, terms};
+use crate::random::Random;
 use crate::tally::Tally;
 
 /// How the clock goes between two calls.
@@ -19,9 +22,12 @@ enum Clock {
     /// A second now and then: a flood spends faster than it is refilled.
     Creeps,
     Steps,
-    /// Stands mostly, and at times jumps as far as a lease lasts.
+    /// Stands mostly, and at times jumps, as far as to where a lease ends.
     Jumps,
 }
+
+/// For how long leases may still last that a run finds in its tables.
+const FOUND_FOR: [u64; 6] = [1, 60, 599, 3_600, 86_400, 100_000];
 
 /// A call that a run has in mind: one for which just its price was left, or one refused with 9, to be made again.
 #[derive(Default)]
@@ -41,6 +47,10 @@ impl Pending {
 #[derive(Clone, Copy, Debug)]
 pub struct Run {
     start: u64,
+    /// The term that the start names.
+    term: u64,
+    /// The number that the tables are then found with instead, in a run that doesn't go on with what its start left.
+    found: Option<u64>,
     clock: Clock,
     /// A partner that makes half of all calls, with much data.
     flooding: Option<usize>,
@@ -48,6 +58,8 @@ pub struct Run {
     power_cuts: bool,
     /// Whether there are many keepalive calls, when something is due.
     keepalives: bool,
+    /// Whether there are many requests just before leases end, and just then.
+    endings: bool,
     /// So many partners, from the first, make calls; the fewer, the more each has of them.
     partners: usize,
 }
@@ -57,11 +69,14 @@ impl Run {
         let random = &mut *calls.random;
         let partners = random.choice(&[1, 2, PARTNERS]);
         Self {
-            start: random.choice(&[0, 1, 100, 1 << 32, TIME_LIMIT - 8_000, TIME_LIMIT - 50]),
+            start: random.choice(&[0, 1, 100, 1 << 32, TIME_LIMIT - 100_000, TIME_LIMIT - 8_000, TIME_LIMIT - 50]),
+            term: terms::accepted(random),
+            found: random.one_in(2).then(|| terms::any(random)),
             clock: random.choice(&[Clock::Stands, Clock::Creeps, Clock::Steps, Clock::Jumps, Clock::Jumps]),
             flooding: (!random.one_in(3)).then(|| random.below(partners)),
             power_cuts: random.one_in(3),
             keepalives: random.one_in(2),
+            endings: random.one_in(2),
             partners,
         }
     }
@@ -70,7 +85,29 @@ impl Run {
     pub fn start(&self, calls: &mut Calls) -> (Call, Tables) {
         let tables = [CONNECTIONS, LEASES, ALLOWANCES].map(|length| calls.random.part(calls.pool, length).to_vec());
         let [connections, leases, allowances] = tables;
-        (Call { now: self.start, kind: Kind::Fresh }, Tables { connections, leases, allowances })
+        (Call { now: self.start, kind: Kind::Fresh { term: self.term } }, Tables { connections, leases, allowances })
+    }
+
+    /// The tables that the run goes on with, given those that its start left: these, or with the number that is found there
+    /// and with leases from before, for longer than the term or shorter.
+    pub fn first_tables(&self, calls: &mut Calls, started: Tables) -> Tables {
+        let Some(number) = self.found else {
+            return started;
+        };
+        let mut relay = decoded(&started);
+        relay.common.term = StoredTerm(number);
+        for (row, lease) in relay.leases.iter_mut().enumerate() {
+            if calls.random.one_in(4) {
+                let expiry = self.start + calls.random.choice(&FOUND_FOR);
+                leave_lease(calls.random, row, lease, expiry);
+            }
+        }
+        relay.encode()
+    }
+
+    /// What the monitor of the term knows of how the run begins.
+    pub fn term_monitor(&self) -> TermMonitor {
+        self.found.map_or_else(|| TermMonitor::named(self.term), TermMonitor::found)
     }
 
     /// The next call: one that the run has in mind, or any.
@@ -78,7 +115,7 @@ impl Run {
         if let Some(call) = pending.0.take() {
             return call;
         }
-        let now = self.tick(calls, relay.clock());
+        let now = self.tick(calls, relay);
         if calls.random.one_in(7) {
             let partner = self.flooding.unwrap_or_else(|| calls.random.below(self.partners));
             if let Some((send, next)) = calls.leave_price(relay, now, partner) {
@@ -105,26 +142,29 @@ impl Run {
         call
     }
 
-    /// Makes the fresh start and then so many calls of one relay by itself, each shown with the relay before and after.
+    /// Makes the fresh start and then so many calls of one relay by itself, each shown with the relay before it. A run is one
+    /// whose start is accepted.
     fn alone(
         &self,
         subject: &impl Boundary,
         calls: &mut Calls,
         length: usize,
-        mut show: impl FnMut(&Relay, &Call, &Answer, &Relay) -> Result<(), Fault>,
+        mut show: impl FnMut(&Relay, &Call, &Outcome) -> Result<(), Fault>,
     ) -> Result<(), Fault> {
         let (start, anything) = self.start(calls);
-        let mut lent = Lent::new(&anything, &start);
-        subject.call(&start, &mut lent);
+        let started = make(subject, &anything, &start);
+        if started.answer.number != 0 {
+            return Err(Fault(format!("{start:?}: {:?}", started.answer)));
+        }
+        let mut tables = self.first_tables(calls, started.lent.tables());
         let mut pending = Pending::default();
         for _ in 0..length {
-            let tables = lent.tables();
             let before = decoded(&tables);
             let call = self.next(calls, &before, &mut pending);
-            lent = Lent::new(&tables, &call);
-            let answer = subject.call(&call, &mut lent);
-            show(&before, &call, &answer, &decoded(&lent.tables()))?;
-            pending.note(calls, call, &answer);
+            let outcome = make(subject, &tables, &call);
+            show(&before, &call, &outcome)?;
+            tables = outcome.lent.tables();
+            pending.note(calls, call, &outcome.answer);
         }
         Ok(())
     }
@@ -137,6 +177,7 @@ impl Run {
         match calls.random.below(8) {
             0 if self.keepalives => calls.keepalive_when_due(relay, now, partner),
             1 | 2 if self.keepalives => calls.data_for_silent(relay, now, partner),
+            3 if self.endings => calls.at_the_end(relay, now, partner),
             _ => None,
         }
     }
@@ -147,17 +188,43 @@ impl Run {
     }
 
     /// The time of the next call; it stops just below the limit.
-    fn tick(&self, calls: &mut Calls, clock: u64) -> u64 {
+    fn tick(&self, calls: &mut Calls, relay: &Relay) -> u64 {
         let random = &mut *calls.random;
         let step = match self.clock {
             Clock::Stands => 0,
             Clock::Creeps => random.one_in(12).into(),
             Clock::Steps => random.choice(&[0, 0, 0, 1, 2, 3]),
-            Clock::Jumps if random.one_in(50) => random.choice(&[1, 60, 1_800, 3_599, 3_600, 3_601]),
+            Clock::Jumps if random.one_in(50) => jump(random, relay),
             Clock::Jumps => 0,
         };
-        (clock + step).min(TIME_LIMIT - 1)
+        (relay.clock() + step).min(TIME_LIMIT - 1)
     }
+}
+
+/// So many seconds that the clock leaves out: few, or as many as a lease still lasts, or one more or less.
+fn jump(random: &mut Random, relay: &Relay) -> u64 {
+    let left = relay.leases.iter().map(|lease| lease.expiry.saturating_sub(relay.clock())).filter(|&left| left > 0);
+    let left: Vec<u64> = left.collect();
+    match random.below(6) {
+        0 => random.choice(&[1, 60, 1_800]),
+        _ if left.is_empty() => 1,
+        _ => random.choice(&left) + random.choice(&[0, 1, 2]) - 1,
+    }
+}
+
+/// Makes the row one that was leased, with an id that no other has. Its holder is nobody or a connection of the partner, which
+/// holds it once it is open.
+fn leave_lease(random: &mut Random, row: usize, lease: &mut Lease, expiry: u64) {
+    let connections: Vec<usize> = connections_of(partner_of_row(row)).collect();
+    let holder = random.choice(&connections) as u8;
+    (lease.expiry, lease.id, lease.holder) = (expiry, row as u32, random.mostly(holder, &[NOBODY]));
+    lease.cookie.fill_with(|| random.byte());
+}
+
+/// Makes a call of one relay by itself.
+pub fn make(subject: &impl Boundary, tables: &Tables, call: &Call) -> Outcome {
+    let mut lent = Lent::new(tables, call);
+    Outcome { answer: subject.call(call, &mut lent), lent }
 }
 
 /// A call of one of the partner's connections.
@@ -183,11 +250,11 @@ pub struct Followed {
 pub fn follow(subject: &impl Boundary, calls: &mut Calls, length: usize, followed: &mut Followed) -> Result<(), Fault> {
     let run = Run::any(calls);
     let mut monitor = Monitor::new(run.start);
-    run.alone(subject, calls, length, |before, call, answer, after| {
+    run.alone(subject, calls, length, |before, call, outcome| {
         followed.calls += 1;
-        followed.prices.count(before, call, answer);
-        monitor.record(&Entry::new(before, call, *answer))?;
-        monitor.check_levels(after)
+        followed.prices.count(before, call, &outcome.answer);
+        monitor.record(&Entry::new(before, call, outcome.answer))?;
+        monitor.check_levels(&decoded(&outcome.lent.tables()))
     })?;
     monitor.count_retries(&mut followed.retries);
     Ok(())
@@ -196,7 +263,14 @@ pub fn follow(subject: &impl Boundary, calls: &mut Calls, length: usize, followe
 /// Makes a run of one relay by itself, followed by the monitor of dead connections.
 pub fn follow_connections(subject: &impl Boundary, calls: &mut Calls, length: usize) -> Result<(), Fault> {
     let mut monitor = ConnectionMonitor::default();
-    Run::any(calls).alone(subject, calls, length, |_, call, answer, _| monitor.record(call, answer))
+    Run::any(calls).alone(subject, calls, length, |_, call, outcome| monitor.record(call, &outcome.answer))
+}
+
+/// Makes a run of one relay by itself, followed by the monitor of the term.
+pub fn follow_terms(subject: &impl Boundary, calls: &mut Calls, length: usize) -> Result<(), Fault> {
+    let run = Run::any(calls);
+    let mut monitor = run.term_monitor();
+    run.alone(subject, calls, length, |_, call, outcome| monitor.record(call, outcome))
 }
 
 /// An id that two live rows have: no run may come to that.

@@ -3,6 +3,7 @@
 use model::{Relay, Tables, ANSWER_TIMEOUT, CONNECTIONS, KEEPALIVE_TIMEOUT, LEASES, LEVEL_LIMIT, PARTNERS, TIME_LIMIT};
 
 use super::prices::ROWS;
+use super::terms;
 use crate::random::Random;
 
 const CONNECTION_LENGTH: usize = 64;
@@ -18,8 +19,9 @@ const IDS: [u32; 10] = [0, 1, 2, 3, 4, 5, (1 << 26) - 1, 1 << 26, (1 << 26) + 1,
 /// Tables of the right sizes.
 pub fn any(random: &mut Random, now: u64) -> Tables {
     let mut tables = if random.one_in(6) { random_bytes(random) } else { nearly_valid(random, now) };
-    let clock = clock_near(random, now).to_be_bytes();
-    tables.allowances[PARTNERS * ALLOWANCE_LENGTH + 8..].copy_from_slice(&clock);
+    // The record behind the partners' allowances.
+    tables.allowances.extend(terms::any(random).to_be_bytes());
+    tables.allowances.extend(clock_near(random, now).to_be_bytes());
     tables
 }
 
@@ -30,7 +32,7 @@ fn random_bytes(random: &mut Random) -> Tables {
         record[0] %= 5;
     }
     let leases = random.bytes(LEASES * LEASE_LENGTH);
-    Tables { connections, leases, allowances: random.bytes((PARTNERS + 1) * ALLOWANCE_LENGTH) }
+    Tables { connections, leases, allowances: random.bytes(PARTNERS * ALLOWANCE_LENGTH) }
 }
 
 fn nearly_valid(random: &mut Random, now: u64) -> Tables {
@@ -41,7 +43,7 @@ fn nearly_valid(random: &mut Random, now: u64) -> Tables {
     let cookies: [Vec<u8>; 4] = [0, 1, 2, 3].map(|_| random.bytes(24));
     let mut leases: Vec<u8> = (0..PARTNERS).flat_map(|partner| leases_of(random, partner, now, &cookies)).collect();
     repeat_ids(random, &mut leases);
-    let allowances = (0..=PARTNERS).flat_map(|_| allowance(random, now)).collect();
+    let allowances = (0..PARTNERS).flat_map(|_| allowance(random, now)).collect();
     Tables { connections, leases, allowances }
 }
 
@@ -132,7 +134,8 @@ fn leases_of(random: &mut Random, partner: usize, now: u64, cookies: &[Vec<u8>])
 /// An expiry, mostly near the time; of rows that aren't live several have the same.
 fn expiry(random: &mut Random, now: u64, live: bool, never_leased: bool) -> u64 {
     if live {
-        random.choice(&[now.saturating_add(1), now.saturating_add(3_600), TIME_LIMIT + 3_600, u64::MAX])
+        let later = [1, 600, 3_600].map(|seconds| now.saturating_add(seconds));
+        random.choice(&[later[0], later[1], later[2], TIME_LIMIT + 3_600, u64::MAX])
     } else if never_leased {
         0
     } else {

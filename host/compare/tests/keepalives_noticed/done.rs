@@ -1,10 +1,11 @@
 //! What a relay could do wrong beside: with a dead connection, with one that is asked, and in other calls.
 
 use compare::relay::boundary::{Kind, Lent};
+use compare::relay::noticed::edit;
 use engine::relay::{Answer, NOBODY};
 use model::{partner_of, Connection, Due, Lease, Relay};
 
-use crate::finding::{edit, Made, Spoil};
+use crate::finding::{Made, Spoil};
 use crate::Overlooked;
 
 /// Changes the caller's record.

@@ -1,7 +1,7 @@
 //! A relay whose ways to find dead connections can be replaced one by one.
 
 use compare::relay::boundary::{Boundary, Call, Kind, Lent, Second};
-use compare::relay::runs::decoded;
+use compare::relay::noticed::edit;
 use engine::relay::{Answer, NOBODY};
 use model::{Connection, Due, Relay, State};
 
@@ -179,13 +179,6 @@ impl Boundary for Finding {
         (self.spoil)(&made, &mut answer, &before, lent);
         answer
     }
-}
-
-/// Changes the tables.
-pub fn edit(lent: &mut Lent, change: impl FnOnce(&mut Relay)) {
-    let mut relay = decoded(&lent.tables());
-    change(&mut relay);
-    lent.set_tables(&relay.encode());
 }
 
 fn start(bytes: &[u8]) -> [u8; 6] {

@@ -8,11 +8,9 @@ mod noted;
 
 use compare::difference::Difference;
 use compare::relay::boundary::{Boundary, Proved, Second};
-use compare::relay::calls::Calls;
-use compare::relay::compared::{self, CALLS_OF_EACH, RUNS};
+use compare::relay::compared;
 use compare::relay::monitor::Fault;
 use compare::relay::runs::follow_connections;
-use compare::{amount, forms};
 use done::{AFTER_A_REFUSAL, WRONG_ASKED, WRONG_CLOSED, WRONG_COSTS, WRONG_ELSEWHERE};
 use finding::{Finding, RIGHT};
 use judged::{WRONG_BYTES, WRONG_LIMITS, WRONG_STATES, WRONG_TIMES};
@@ -35,10 +33,7 @@ fn assert_noticed<T: Copy>(overlooked: &[Overlooked<T>], finding: fn(T) -> Findi
 /// Follows runs of the relay by itself until the monitor of dead connections, which knows calls and answers only, finds a
 /// fault.
 fn follow_runs(subject: &impl Boundary) -> Result<(), Fault> {
-    let mut random = amount::random();
-    let pool = forms::pool(&mut random);
-    let mut calls = Calls { random: &mut random, pool: &pool };
-    (0..amount::rounds(RUNS)).try_for_each(|_| follow_connections(subject, &mut calls, CALLS_OF_EACH))
+    compared::followed(subject, follow_connections)
 }
 
 /// The monitor alone must notice those that runs come to.

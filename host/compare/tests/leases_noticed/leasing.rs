@@ -35,6 +35,11 @@ impl Asked {
         self.relay.offer(self.caller, self.random(), self.now)
     }
 
+    /// The expiry of what is leased now.
+    pub fn expiry(&self) -> u64 {
+        self.now + self.relay.common.term.seconds()
+    }
+
     pub fn lease(&self, row: usize) -> &Lease {
         &self.relay.leases[row]
     }
@@ -123,7 +128,7 @@ impl Leasing {
             return vec![3, 0];
         }
         let row = renewed.unwrap_or_else(|| self.write_new(asked, rows));
-        rows[row][..8].copy_from_slice(&(asked.now + 3_600).to_be_bytes());
+        rows[row][..8].copy_from_slice(&asked.expiry().to_be_bytes());
         rows[row][12] = asked.caller as u8;
         let mut reply = [&[3, 1], &rows[row][8..12], &rows[row][16..], &rows[row][..8]].concat();
         if renewed.is_some() {

@@ -5,10 +5,9 @@ mod leasing;
 mod overlooked;
 
 use compare::difference::Difference;
-use compare::relay::boundary::{Boundary, Lent};
 use compare::relay::calls::Calls;
 use compare::relay::compared::{self, CALLS_OF_EACH, RUNS};
-use compare::relay::runs::{decoded, doubled_id, Pending, Run};
+use compare::relay::runs::{decoded, doubled_id, make, Pending, Run};
 use compare::{amount, forms};
 use leasing::{Leasing, RIGHT};
 use model::Part;
@@ -24,16 +23,14 @@ fn doubles_an_id(subject: &Leasing) -> bool {
 
 fn run_doubles_an_id(subject: &Leasing, calls: &mut Calls) -> bool {
     let run = Run::any(calls);
-    let (start, mut tables) = run.start(calls);
-    let mut lent = Lent::new(&tables, &start);
-    subject.call(&start, &mut lent);
+    let (start, anything) = run.start(calls);
+    let started = make(subject, &anything, &start).lent.tables();
+    let mut tables = run.first_tables(calls, started);
     let mut pending = Pending::default();
     (0..CALLS_OF_EACH).any(|_| {
-        tables = lent.tables();
         let call = run.next(calls, &decoded(&tables), &mut pending);
-        lent = Lent::new(&tables, &call);
-        subject.call(&call, &mut lent);
-        doubled_id(&decoded(&lent.tables())).is_some()
+        tables = make(subject, &tables, &call).lent.tables();
+        doubled_id(&decoded(&tables)).is_some()
     })
 }
 

@@ -127,12 +127,12 @@ pub const SPOILED_RENEWALS: [Overlooked<Spoil>; 13] = [
         reply[30..].copy_from_slice(&asked.lease(row).expiry.to_be_bytes());
     }),
     ("that the expiry is not added to", true, |asked, row, rows, _| {
-        let from = asked.lease(row).expiry.max(asked.now);
-        rows[row][..8].copy_from_slice(&from.wrapping_add(3_600).to_be_bytes());
+        let left = asked.lease(row).expiry.saturating_sub(asked.now);
+        rows[row][..8].copy_from_slice(&asked.expiry().wrapping_add(left).to_be_bytes());
     }),
     ("that no new row is used", true, |asked, _, rows, _| {
         let row = RIGHT.write_new(asked, rows);
-        rows[row][..8].copy_from_slice(&(asked.now + 3_600).to_be_bytes());
+        rows[row][..8].copy_from_slice(&asked.expiry().to_be_bytes());
     }),
     ("that the caller's other rows stay", true, |asked, row, rows, _| {
         let others = rows.iter_mut().enumerate().filter(|&(other, _)| other != row && asked.is_own(other));

@@ -6,39 +6,23 @@ mod overlooked;
 mod pricing;
 
 use compare::difference::Difference;
-use compare::relay::boundary::Boundary;
-use compare::relay::calls::Calls;
-use compare::relay::compared::{self, CALLS_OF_EACH, RUNS};
+use compare::relay::compared;
 use compare::relay::monitor::Fault;
+use compare::relay::noticed::{self, Overlooked};
 use compare::relay::runs::{follow, Followed};
-use compare::{amount, forms};
 use overlooked::{
-    Overlooked, Shows, ANOTHER_OUTCOME, FORGOTTEN, NOT_FREE, WRONG_LEVELS, WRONG_ORDER, WRONG_REFUSALS, WRONG_STORED,
-    WRONG_SUMS,
+    ANOTHER_OUTCOME, FORGOTTEN, NOT_FREE, WRONG_LEVELS, WRONG_ORDER, WRONG_REFUSALS, WRONG_STORED, WRONG_SUMS,
 };
 use pricing::{Pricing, RIGHT};
 
 /// Follows runs of the relay by itself until the monitor of the allowances finds a fault.
-fn follow_runs(subject: &impl Boundary) -> Result<(), Fault> {
-    let mut random = amount::random();
-    let pool = forms::pool(&mut random);
-    let mut calls = Calls { random: &mut random, pool: &pool };
+fn follow_runs(subject: &Pricing) -> Result<(), Fault> {
     let mut followed = Followed::default();
-    (0..amount::rounds(RUNS)).try_for_each(|_| follow(subject, &mut calls, CALLS_OF_EACH, &mut followed))
+    compared::followed(subject, |subject, calls, length| follow(subject, calls, length, &mut followed))
 }
 
-/// Each relay that overlooks one of these must differ from the right one in single calls, and in runs where it can; where
-/// the monitor can notice it, it must alone, too.
 fn assert_noticed<T: Copy>(overlooked: &[Overlooked<T>], pricing: fn(T) -> Pricing) {
-    for &(what, shows, instead) in overlooked {
-        compared::calls(&pricing(instead)).expect_err(what);
-        if shows != Shows::OnTables {
-            compared::runs(&pricing(instead)).expect_err(what);
-        }
-        if shows == Shows::InHistory {
-            follow_runs(&pricing(instead)).expect_err(what);
-        }
-    }
+    noticed::assert_noticed(overlooked, pricing, follow_runs);
 }
 
 #[test]

@@ -1,24 +1,11 @@
 //! What a relay could overlook that charges.
 
 use compare::relay::boundary::Kind;
+use compare::relay::noticed::Overlooked;
+use compare::relay::noticed::Shows::{InHistory, InRuns, OnTables};
 use model::{partner_of, partner_of_row, Allowance, Relay, LEVEL_LIMIT, REFILL};
 
 use crate::pricing::{ComesFirst, Made, Price, Refused, Refuses, Store, RIGHT};
-use Shows::{InHistory, InRuns, OnTables};
-
-/// Something that a relay overlooks, where that shows, and what it does instead.
-pub type Overlooked<T> = (&'static str, Shows, T);
-
-/// Where it shows that something is overlooked.
-#[derive(Clone, Copy, PartialEq, Eq)]
-pub enum Shows {
-    /// On tables from anywhere alone: runs hardly or never come to it.
-    OnTables,
-    /// In runs too, but in no level and no answer that the monitor judges.
-    InRuns,
-    /// And in what the monitor of the allowances judges.
-    InHistory,
-}
 
 /// The right price with so much less, of calls to which that applies.
 fn less(made: &Made, applies: bool, missing: u64) -> Option<u64> {

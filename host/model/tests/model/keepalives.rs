@@ -1,7 +1,7 @@
 //! "Find dead connections": the request's examples, and each of its sentences.
 
 use model::{close, keepalive, open, reasons};
-use model::{Answer, Relay, State, Tables, CONNECTIONS, LEVEL_LIMIT, NOBODY, TIME_LIMIT};
+use model::{Answer, Relay, State, StoredTerm, Tables, CONNECTIONS, LEVEL_LIMIT, NOBODY, TIME_LIMIT};
 
 use crate::support::{establish_with_id_1, relay, relay_in_session, relay_with, send, set_allowance, Sent};
 
@@ -60,7 +60,7 @@ fn record(tables: &Tables, connection: usize) -> [u8; 14] {
 
 /// Connection 0 is open, and its record has these.
 fn with_record(unanswered: u8, sent: u64, asked: u64) -> Tables {
-    let mut relay = Relay::fresh(0);
+    let mut relay = Relay::fresh(0, StoredTerm::default());
     relay.connections[0].set_state(State::Open);
     (relay.connections[0].unanswered, relay.connections[0].sent, relay.connections[0].asked) =
         (unanswered, sent, asked);
@@ -138,7 +138,7 @@ fn the_other_of_a_session_is_told() {
     let relay = decoded(&tables);
     assert_eq!((relay.connections[0].peer, relay.connections[0].sent), (NOBODY, 1_090));
     assert_eq!((relay.connections[1].state(), relay.leases[0].holder), (State::Closed, NOBODY));
-    assert_eq!(relay.leases[0].expiry, 4_600);
+    assert_eq!(relay.leases[0].expiry, 1_600);
 }
 
 #[test]

@@ -5,4 +5,5 @@ mod prices;
 mod reasons;
 mod renewals;
 mod support;
+mod terms;
 mod worked_examples;

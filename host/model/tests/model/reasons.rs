@@ -1,7 +1,7 @@
 //! Why a call is turned away, or what decides it: the request's sentences, by examples worked out from the papers.
 
 use model::reasons::{self, Outcome, Reason};
-use model::{close, Condition, Refusal, Relay, State, Tables, LEVEL_LIMIT, TIME_LIMIT};
+use model::{close, Condition, Refusal, Relay, State, StoredTerm, Tables, LEVEL_LIMIT, TIME_LIMIT};
 
 use crate::support::{relay, relay_in_session, relay_with, relay_with_a_lease, send, set_allowance, RANDOM};
 
@@ -65,7 +65,7 @@ fn the_level_is_the_refilled_one() {
 /// first held by 0 and the others renewable. Every candidate is live too, the first one here and the others under
 /// another partner.
 fn relay_with_live_rows(rows: usize) -> Tables {
-    let mut relay = Relay::fresh(100);
+    let mut relay = Relay::fresh(100, StoredTerm::default());
     for connection in [0, 1] {
         relay.connections[connection].set_state(State::Open);
     }
@@ -164,7 +164,7 @@ fn a_charged_call_that_an_earlier_check_stops_has_none() {
     assert_eq!(reasons::open(&tables, 100, 64, 64), stopped(Refusal::NoSuchConnection));
     assert_eq!(explain_open(&tables), stopped(Refusal::WrongState));
     assert_eq!(reasons::open(&tables, 100, 8, 63), stopped(Refusal::Buffers));
-    assert_eq!(explain_message(&tables, 0, &[]), stopped(Refusal::NotFromPeers));
+    assert_eq!(explain_message(&tables, 0, &[]), stopped(Refusal::Invalid));
     assert_eq!(explain_message(&tables, 0, &[1, 1]), stopped(Refusal::NotPermitted));
     assert_eq!(explain_message(&tables, 0, &[11]), stopped(Refusal::NoSession));
 }

@@ -1,7 +1,7 @@
 //! "Keep my number after a power cut": the request's examples, and each part of its sentence.
 
 use codec::Message;
-use model::{close, message, Relay, State, Tables, CONNECTIONS, LEASES, NOBODY, PARTNERS};
+use model::{close, message, Relay, State, StoredTerm, Tables, CONNECTIONS, LEASES, NOBODY, PARTNERS};
 
 use crate::support::{relay_with, RANDOM};
 
@@ -17,7 +17,7 @@ const REQUEST_WITH_K: [u8; 26] = {
 /// What a new lease here gets from the random bytes.
 const NEW_ID: u32 = 1;
 const NEW_COOKIE: [u8; 24] = [9; 24];
-const TERM: u64 = 3_600;
+const TERM: u64 = 600;
 
 /// What each partner owns; those of partner 0 come first.
 const OWN_CONNECTIONS: usize = CONNECTIONS / PARTNERS;
@@ -26,7 +26,7 @@ const ROW_LENGTH: usize = 40;
 
 /// A relay whose first connections are open, as many as said, and whose row 0 was leased with K as id 7 until `expiry`.
 fn relay_with_row_0(open: usize, expiry: u64, holder: u8) -> Relay {
-    let mut relay = Relay::fresh(0);
+    let mut relay = Relay::fresh(0, StoredTerm::default());
     for connection in &mut relay.connections[..open] {
         connection.set_state(State::Open);
     }
@@ -104,7 +104,7 @@ fn assert_refused(relay: &Relay, now: u64, caller: u64) {
 fn leased_at_100() -> Tables {
     let mut tables = relay_with(100, &[0, 1]);
     let random = [&K, &7_u32.to_be_bytes().repeat(14)[..]].concat();
-    assert_eq!(ask_with(&mut tables, 100, 0, &[2, 0], &random), Some((7, K, 3_700)));
+    assert_eq!(ask_with(&mut tables, 100, 0, &[2, 0], &random), Some((7, K, 700)));
     tables
 }
 
@@ -113,7 +113,7 @@ fn another_connection_comes_back_with_the_cookie() {
     let mut tables = leased_at_100();
     assert_eq!(close(&mut tables, 200, 0, &mut [0; 64]).number, 0);
     assert_renewed(&decoded(&tables), 9_000, 1, 0);
-    assert_eq!(ask(&mut tables, 9_000, 1, &REQUEST_WITH_K), Some((7, K, 12_600)));
+    assert_eq!(ask(&mut tables, 9_000, 1, &REQUEST_WITH_K), Some((7, K, 9_600)));
 }
 
 #[test]
@@ -198,10 +198,10 @@ fn two_live_rows_may_come_to_have_one_cookie() {
     let mut tables = relay_with_row_0(2, 50, NOBODY).encode();
     // A new lease whose drawn cookie is the old K.
     let random = [&K, &RANDOM[24..]].concat();
-    assert_eq!(ask_with(&mut tables, 100, 0, &[2, 0], &random), Some((NEW_ID, K, 3_700)));
+    assert_eq!(ask_with(&mut tables, 100, 0, &[2, 0], &random), Some((NEW_ID, K, 700)));
     assert_renewed(&decoded(&tables), 100, 1, 0);
     assert_eq!(close(&mut tables, 101, 0, &mut [0; 64]).number, 0);
-    assert_eq!(ask(&mut tables, 102, 1, &REQUEST_WITH_K), Some((7, K, 3_702)));
+    assert_eq!(ask(&mut tables, 102, 1, &REQUEST_WITH_K), Some((7, K, 702)));
     let rows = decoded(&tables).leases;
     assert!([0, 1].iter().all(|&row| rows[row].is_live(102) && rows[row].cookie == K));
     assert_eq!([rows[0].holder, rows[1].holder], [1, NOBODY]);
@@ -254,7 +254,7 @@ fn a_new_lease_takes_the_earliest_row_cookie_or_not() {
     (relay.leases[1].expiry, relay.leases[3].expiry, relay.leases[9].expiry) = (101, 40, 40);
     assert_new(&relay, 100, 0, 3);
     let mut tables = relay.encode();
-    assert_eq!(ask(&mut tables, 100, 0, &[2, 0]), Some((NEW_ID, NEW_COOKIE, 3_700)));
+    assert_eq!(ask(&mut tables, 100, 0, &[2, 0]), Some((NEW_ID, NEW_COOKIE, 700)));
     assert_eq!(decoded(&tables).leases[3].holder, 0);
     relay.leases[OWN_ROWS - 1].expiry = 39;
     assert_new(&relay, 100, 0, OWN_ROWS - 1);
@@ -265,6 +265,6 @@ fn a_request_without_a_cookie_renews_nothing() {
     let mut relay = relay_with_row_0(1, 50, NOBODY);
     relay.leases[0].cookie = [0; 24];
     let mut tables = relay.encode();
-    assert_eq!(ask(&mut tables, 100, 0, &[2, 0]), Some((NEW_ID, NEW_COOKIE, 3_700)));
+    assert_eq!(ask(&mut tables, 100, 0, &[2, 0]), Some((NEW_ID, NEW_COOKIE, 700)));
     assert_eq!(decoded(&tables).leases[0], relay.leases[0]);
 }

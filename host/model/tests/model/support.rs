@@ -2,16 +2,30 @@
 
 use model::{fresh, message, open, Answer, Relay, Tables};
 
-/// A fresh relay at this time.
+/// Tables that nobody has made a relay of.
+pub fn anything() -> Tables {
+    Tables { connections: vec![7; 4096], leases: vec![7; 5120], allowances: vec![7; 144] }
+}
+
+/// A fresh relay at this time, of the usual term.
 pub fn relay(now: u64) -> Tables {
-    let mut tables = Tables { connections: vec![7; 4096], leases: vec![7; 5120], allowances: vec![7; 144] };
-    assert_eq!(fresh(&mut tables, now).number, 0);
+    relay_of_term(now, 0)
+}
+
+/// The same of the term that is named.
+pub fn relay_of_term(now: u64, term: u64) -> Tables {
+    let mut tables = anything();
+    assert_eq!(fresh(&mut tables, now, term).number, 0);
     tables
 }
 
 /// A fresh relay with these connections open.
 pub fn relay_with(now: u64, connections: &[u64]) -> Tables {
-    let mut tables = relay(now);
+    with_open(relay(now), now, connections)
+}
+
+/// The relay, these connections opened.
+pub fn with_open(mut tables: Tables, now: u64, connections: &[u64]) -> Tables {
     for &connection in connections {
         assert_eq!(open(&mut tables, now, connection, &mut [0; 64]).number, 0);
         assert_eq!(send(&mut tables, now, connection, &[1, 1]).answer.number, 0);

@@ -1,8 +1,10 @@
-//! The scope's twelve worked examples, by their numbers there, the eighth as request 5 restates it, through the calls.
+//! The scope's twelve worked examples, by their numbers there, the sixth as request 6 restates it and the eighth as request 5
+//! does, through the calls.
 
 use model::{close, fresh, open, Answer, LEVEL_LIMIT, NOBODY, TIME_LIMIT};
 
-use crate::support::{establish_with_id_1, level, relay, relay_in_session, relay_with, send, set_allowance};
+use crate::support::{establish_with_id_1, level, relay, relay_in_session, relay_of_term, relay_with, send};
+use crate::support::{set_allowance, with_open};
 
 #[test]
 fn case_1_empty_message() {
@@ -35,11 +37,13 @@ fn case_5_a_candidate_is_taken_modulo_2_to_the_26() {
 }
 
 #[test]
-fn case_6_a_lease_is_live_for_an_hour() {
-    for (now, status) in [(3_699, 5), (3_700, 1)] {
-        let mut tables = relay_with(100, &[0]);
-        send(&mut tables, 100, 0, &[2, 0]);
-        assert_eq!(establish_with_id_1(&mut tables, now, 0), status);
+fn case_6_a_lease_is_live_for_the_term() {
+    for (term, last) in [(0, 699), (600, 699), (3_600, 3_699), (86_400, 86_499)] {
+        for (now, status) in [(last, 5), (last + 1, 1)] {
+            let mut tables = with_open(relay_of_term(100, term), 100, &[0]);
+            send(&mut tables, 100, 0, &[2, 0]);
+            assert_eq!(establish_with_id_1(&mut tables, now, 0), status);
+        }
     }
 }
 
@@ -67,7 +71,7 @@ fn case_8_the_longest_send() {
 #[test]
 fn case_9_the_latest_time() {
     for (now, number) in [(TIME_LIMIT - 1, 0), (TIME_LIMIT, 2)] {
-        assert_eq!(fresh(&mut relay(0), now).number, number);
+        assert_eq!(fresh(&mut relay(0), now, 0).number, number);
         assert_eq!(open(&mut relay(0), now, 0, &mut [0; 64]).number, number);
         assert_eq!(send(&mut relay_with(0, &[0]), now, 0, &[13]).answer.number, number);
         assert_eq!(close(&mut relay_with(0, &[0]), now, 0, &mut [0; 64]).number, number);
