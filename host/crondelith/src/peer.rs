@@ -33,13 +33,15 @@ const DETAILS: &str = "\
 With a port in '--relay', '--port' and '--partner' may not be given.
 
 The receiver writes to a file beside FILE, of the same name with some letters and '.part' after it.
-Once that is complete and has the sender's digest it gets its name; otherwise it is removed. While
-the receiver waits it extends its lease; if the relay doesn't extend or renew it, it leases another
-id and prints that one too. The sender is done when the receiver has confirmed the file, with its
-digest. A relay hands on about 32 KB a second for a partner whose allowance is used up, and may let
-a message wait for seconds then, so '--timeout' shouldn't be short. A transfer in which nothing
-moves for 60 seconds says so. Either side tells the relay that it is there when it is asked; one
-that is suspended for a minute or more, by Ctrl-Z say, may find its connection closed.
+Once that is complete and has the sender's digest it gets its name; otherwise it is removed. The
+receiver extends its lease every 5 minutes from when it waits until the file is kept, which is in
+time whatever term the relay has. If the relay neither extends nor renews it while the receiver
+waits, it leases another id and prints that one too. The sender is done when the receiver has
+confirmed the file, with its digest. A relay hands on about 32 KB a second for a partner whose
+allowance is used up, and may let a message wait for seconds then, so '--timeout' shouldn't be
+short. A transfer in which nothing moves for 60 seconds says so. Either side tells the relay that it
+is there when it is asked; one that is suspended for a minute or more, by Ctrl-Z say, may find its
+connection closed.
 
 With '--cookie' the receiver keeps its lease's cookie in a file, a line of 48 hex digits, and asks
 for its id with it the next time, also after a power cut. Then 'kept' or 'new' follows the id on its

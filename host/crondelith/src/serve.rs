@@ -7,7 +7,7 @@ use std::time::SystemTime;
 
 use clap::{value_parser, Args, ValueEnum};
 use serde_json::{json, Value};
-use server::{bind, Log, LogFormat, Server, Settings, SystemClock, PARTNERS};
+use server::{bind, LeaseTerm, Log, LogFormat, Server, Settings, SystemClock, PARTNERS};
 
 use crate::output::write_line;
 use crate::signals::Signals;
@@ -50,6 +50,12 @@ side of its session told. So a peer that has vanished is found in a minute and a
 five minutes, if it is sent something all the while and its machine acknowledges nothing. A relay
 that stood still for 5 seconds itself judges nobody for 5 more.
 
+A lease's term is how long it lasts from when the relay gives, renews or extends it; by then its
+holder has to have asked for more time. '--lease-term' names that of a fresh relay, whose tables
+keep it. With a file of '--state' that exists, the file's term holds, whatever is named: in one of
+an older relay, which has none, 3,600 seconds, and in one whose term is out of range 600. A line in
+the log says at each start how long leases last, and why if that isn't what was named.
+
 With '--state' the three tables are in FILE: they are loaded at the start, saved twice a second when
 more than their clock has changed, and at the end. Leases and allowances go on; connections are
 gone. What a killed relay did in its last second is lost. Only one relay can use a file; beside it
@@ -70,8 +76,9 @@ once, and 2 if the arguments are wrong.";
 #[derive(Args)]
 #[command(long_about = ABOUT, after_long_help = DETAILS)]
 pub struct Arguments {
-    /// An IPv4 or IPv6 address to listen on; may be repeated
-    #[arg(long, value_name = "ADDRESS", default_value = "127.0.0.1")]
+    /// An IPv4 or IPv6 address to listen on;
+    /// may be repeated
+    #[arg(long, verbatim_doc_comment, value_name = "ADDRESS", default_value = "127.0.0.1")]
     listen: Vec<IpAddr>,
 
     /// The port of partner 0, 1 to 65528;
@@ -85,6 +92,11 @@ pub struct Arguments {
     /// [default: none]
     #[arg(long, verbatim_doc_comment, value_name = "FILE")]
     state: Option<PathBuf>,
+
+    /// How long leases last, 600 to 86400; where the FILE of
+    /// '--state' exists, its own term holds [default: 600]
+    #[arg(long, verbatim_doc_comment, value_name = "SECONDS", allow_negative_numbers = true)]
+    lease_term: Option<LeaseTerm>,
 
     /// How the lines on stderr look; one of JSON
     /// has its time and event
@@ -109,8 +121,9 @@ impl From<Format> for LogFormat {
 
 pub fn run(arguments: Arguments) -> Outcome {
     let mut signals = Signals::register()?;
-    let Arguments { listen, port, state, log } = arguments;
-    let settings = Settings { state, ..Settings::new(SystemClock::new(), Log::new(log.into(), write_line)) };
+    let Arguments { listen, port, state, lease_term, log } = arguments;
+    let log_to_stderr = Log::new(log.into(), write_line);
+    let settings = Settings { state, lease_term, ..Settings::new(SystemClock::new(), log_to_stderr) };
     let server = bind(&listen, port).and_then(|listeners| Server::start(listeners, settings));
     let server = server.map_err(|error| Failure::Failed(error.to_string()))?;
     for (partner, address) in places(&listen, port) {

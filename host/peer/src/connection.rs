@@ -2,15 +2,17 @@
 
 use std::io::{self, Read, Write};
 use std::net::{Shutdown, TcpStream};
-use std::sync::{Arc, Mutex, PoisonError, Weak};
+use std::sync::{Arc, Mutex, MutexGuard, PoisonError, Weak};
 use std::time::{Duration, Instant};
 
 use codec::Message;
 
-use crate::Error;
+use crate::{Cookie, Error};
 
-/// How long a Keepalive that nobody asked for waits for room.
+/// How long a message that nobody asked for waits for room.
 const ROOM_WAIT: Duration = Duration::from_millis(100);
+/// After how long an extension is tried again that couldn't be asked for.
+pub(crate) const NEXT_TRY: Duration = Duration::from_secs(1);
 
 /// What comes from the relay.
 pub(crate) struct Incoming {
@@ -30,6 +32,14 @@ pub(crate) struct Writer {
     frame: Vec<u8>,
     /// When the last message was written. None if that failed: a part of it may be there, so no other can follow.
     sent: Option<Instant>,
+    /// The lease that is to be extended.
+    held: Option<Held>,
+}
+
+/// A lease that is held, with when the relay was last asked for it, or for more time.
+pub(crate) struct Held {
+    pub cookie: Cookie,
+    pub asked: Instant,
 }
 
 /// Closes a connection from another thread; a read or write that waits there ends.
@@ -39,7 +49,7 @@ pub struct Closer(Arc<TcpStream>);
 pub(crate) fn split(stream: TcpStream) -> (Incoming, Outgoing) {
     let stream = Arc::new(stream);
     let incoming = Incoming { stream: Arc::clone(&stream), reader: frames::Reader::default() };
-    let writer = Writer { stream: Arc::clone(&stream), frame: Vec::new(), sent: Some(Instant::now()) };
+    let writer = Writer { stream: Arc::clone(&stream), frame: Vec::new(), sent: Some(Instant::now()), held: None };
     (incoming, Outgoing { stream, writer: Arc::new(Mutex::new(writer)) })
 }
 
@@ -66,7 +76,16 @@ impl Outgoing {
     /// Fails if the relay hasn't taken the message by the deadline. It may have taken a part of it then, so no other
     /// message can follow.
     pub fn send(&self, message: &Message, deadline: Option<Instant>) -> Result<(), Error> {
-        self.writer.lock().unwrap_or_else(PoisonError::into_inner).send(message, deadline)
+        self.lock().send(message, deadline)
+    }
+
+    /// From now on this lease is to be extended, or none.
+    pub fn hold(&self, lease: Option<Held>) {
+        self.lock().held = lease;
+    }
+
+    fn lock(&self) -> MutexGuard<'_, Writer> {
+        self.writer.lock().unwrap_or_else(PoisonError::into_inner)
     }
 
     /// For another thread. It keeps the connection from being closed only while it writes.
@@ -105,14 +124,33 @@ impl Writer {
         if !left.is_zero() {
             return left;
         }
-        // An error is for those who use the connection to find.
-        let _ = self.offer_keepalive();
+        // If there is no room, what was sent before has still to be taken, and says as much. An error is for those who use
+        // the connection to find.
+        let _ = self.offer(&Message::Keepalive);
         silence
     }
 
-    /// If there is no room, what was sent before has still to be taken, and says as much.
-    fn offer_keepalive(&mut self) -> Result<(), Error> {
-        self.make_frame(&Message::Keepalive)?;
+    /// Asks for more time for the lease that is held, if it was last asked for so long ago. Gives when to ask again.
+    pub fn extend(&mut self, wait: Duration) -> Duration {
+        let (Some(_), Some(Held { cookie, asked })) = (self.sent, &self.held) else { return wait };
+        let left = wait.saturating_sub(asked.elapsed());
+        if !left.is_zero() {
+            return left;
+        }
+        let (cookie, asked) = (*cookie, Instant::now());
+        match self.offer(&Message::ExtensionRequest { cookie: &cookie }) {
+            Ok(()) => {
+                self.held = Some(Held { cookie, asked });
+                wait
+            }
+            // There was no room, or an error is for others to find, as with a Keepalive.
+            Err(_) => NEXT_TRY,
+        }
+    }
+
+    /// Sends a message if there is room for it.
+    fn offer(&mut self, message: &Message) -> Result<(), Error> {
+        self.make_frame(message)?;
         let deadline = Some(Instant::now() + ROOM_WAIT);
         let count = Timed { stream: &self.stream, deadline }.write(&self.frame).map_err(failed)?;
         let rest = Timed { stream: &self.stream, deadline: None }.write_all(&self.frame[count..]).map_err(failed);
@@ -175,17 +213,18 @@ impl Write for Timed<'_> {
 
 #[cfg(test)]
 mod tests {
-    use std::io::Read;
+    use std::io::{Read, Write};
     use std::net::{TcpListener, TcpStream};
     use std::thread;
     use std::time::{Duration, Instant};
 
     use codec::Message;
 
-    use super::{split, Outgoing};
+    use super::{split, Held, Outgoing, Timed, NEXT_TRY, ROOM_WAIT};
     use crate::{Error, MESSAGE_SIZE};
 
     const DATA: Message = Message::DataSend { data: &[255; MESSAGE_SIZE] };
+    const COOKIE: [u8; 24] = [7; 24];
 
     /// What goes to a relay, and the relay's stream.
     fn connect() -> (Outgoing, TcpStream) {
@@ -194,14 +233,16 @@ mod tests {
         (split(peer).1, listener.accept().expect("a connection").0)
     }
 
-    /// A heartbeat is due, and the stream ends.
+    /// A heartbeat and an extension are due, and the stream ends.
     fn beat_and_end(outgoing: &Outgoing) {
-        outgoing.writer.lock().expect("a writer").beat(Duration::ZERO);
+        outgoing.hold(Some(Held { cookie: COOKIE, asked: Instant::now() }));
+        outgoing.lock().beat(Duration::ZERO);
+        outgoing.lock().extend(Duration::ZERO);
         outgoing.end().expect("the end");
     }
 
     #[test]
-    fn no_heartbeat_follows_a_message_that_failed() {
+    fn nothing_follows_a_message_that_failed() {
         let (outgoing, mut relay) = connect();
         let late = outgoing.send(&DATA, Some(Instant::now()));
         assert!(matches!(late, Err(Error::NoAnswer)), "{late:?}");
@@ -210,12 +251,12 @@ mod tests {
     }
 
     #[test]
-    fn no_heartbeat_follows_a_part_of_a_message() {
+    fn nothing_follows_a_part_of_a_message() {
         let (outgoing, mut relay) = connect();
         // Nobody reads, so the buffers fill up within a message.
         let send = || outgoing.send(&DATA, Some(Instant::now() + Duration::from_millis(50)));
         while send().is_ok() {}
-        // The heartbeat would have room now.
+        // There would be room now.
         let reading = thread::spawn(move || {
             let mut received = Vec::new();
             relay.read_to_end(&mut received).map(|_| received)
@@ -225,6 +266,47 @@ mod tests {
         let mut frame = Vec::new();
         frames::append(&codec::encode(&DATA).expect("a message"), &mut frame).expect("a frame");
         let only_data = received.chunks(frame.len()).all(|part| frame.starts_with(part));
-        assert!(only_data, "a heartbeat within {} bytes", received.len());
+        assert!(only_data, "another message within {} bytes", received.len());
+    }
+
+    #[test]
+    fn an_extension_waits_until_it_is_due() {
+        let (outgoing, mut relay) = connect();
+        let wait = Duration::from_secs(300);
+        assert_eq!(outgoing.lock().extend(wait), wait, "nothing is leased");
+        for ago in [0, 100].map(Duration::from_secs) {
+            outgoing.hold(Some(Held { cookie: COOKIE, asked: Instant::now() - ago }));
+            let (left, late) = (outgoing.lock().extend(wait), Duration::from_secs(60));
+            assert!((wait - ago - late..=wait - ago).contains(&left), "{left:?}");
+        }
+        outgoing.hold(Some(Held { cookie: COOKIE, asked: Instant::now() - wait }));
+        assert_eq!(outgoing.lock().extend(wait), wait);
+        assert!(outgoing.lock().extend(wait) > wait / 2, "it has been asked for");
+        outgoing.end().expect("the end");
+        let mut received = Vec::new();
+        relay.read_to_end(&mut received).expect("the end");
+        assert_eq!(received, [&[0, 26, 1, 4][..], &COOKIE].concat());
+    }
+
+    /// Sends as many bytes as there is room for, so many at a time.
+    fn fill(outgoing: &Outgoing, length: usize) -> usize {
+        let stream = || Timed { stream: outgoing.stream(), deadline: Some(Instant::now() + ROOM_WAIT) };
+        (0..).map_while(|_| stream().write(&vec![0; length]).ok()).sum()
+    }
+
+    #[test]
+    fn an_extension_that_has_no_room_is_tried_again() {
+        let (outgoing, mut relay) = connect();
+        let wait = Duration::from_secs(300);
+        outgoing.hold(Some(Held { cookie: COOKIE, asked: Instant::now() - wait }));
+        // What has no room for many bytes may have some for a few.
+        let filled = fill(&outgoing, 65_536) + fill(&outgoing, 1);
+        assert_eq!(outgoing.lock().extend(wait), NEXT_TRY);
+        relay.read_exact(&mut vec![0; filled]).expect("what was before");
+        assert_eq!(outgoing.lock().extend(wait), wait);
+        outgoing.end().expect("the end");
+        let mut received = Vec::new();
+        relay.read_to_end(&mut received).expect("the end");
+        assert_eq!(received, [&[0, 26, 1, 4][..], &COOKIE].concat());
     }
 }

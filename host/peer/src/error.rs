@@ -116,8 +116,8 @@ const NOTHING_LISTENS: &str = "nothing listens there; perhaps the relay isn't ru
 const CLOSED_BEFORE_VERSION: &str = "the relay closed the connection before its version message; perhaps all eight \
                                      connections of the partner are in use, or its allowance is used up";
 const NO_RELAY: &str = "perhaps it is no relay that listens there";
-const LEASE_REFUSED: &str = "the relay granted no id; perhaps all sixteen leases of the partner run (each does for an \
-                             hour, even if its holder has gone), or this connection holds an id already";
+const LEASE_REFUSED: &str = "the relay granted no id; perhaps all sixteen leases of the partner run (each does to its \
+                             end, even if its holder has gone), or this connection holds an id already";
 
 impl fmt::Display for Error {
     fn fmt(&self, to: &mut fmt::Formatter) -> fmt::Result {

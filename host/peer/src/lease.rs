@@ -1,13 +1,18 @@
-//! Leasing an id, and keeping the lease while waiting for a session.
+//! Leasing an id, and keeping the lease from when a session is awaited.
 
-use std::time::{Duration, Instant, SystemTime, UNIX_EPOCH};
+use std::time::{Duration, Instant};
 
 use codec::{Message, COOKIE_LENGTH};
 
+use crate::connection::{Held, NEXT_TRY};
+use crate::routine::Routine;
 use crate::{Error, Peer};
 
-/// What the relay leases an id for.
-const LEASE_SECONDS: u64 = 3600;
+/// So long after it has asked for a lease, or for more time, a peer asks for more time. A lease lasts for 600 seconds or more
+/// from when the relay grants it, which is after it was asked for: so this is in time whatever the term is, and leaves as
+/// long again for the partner's allowance and a busy machine. The expiration that the relay tells is of no use here: it is by
+/// the relay's clock, and a peer knows neither that nor the term. Asking costs 67 units.
+pub const EXTENSION_WAIT: Duration = Duration::from_secs(300);
 
 /// What the relay gives with an id. Who has it can extend the lease, and have the id again later.
 pub type Cookie = [u8; COOKIE_LENGTH];
@@ -17,6 +22,7 @@ pub type Cookie = [u8; COOKIE_LENGTH];
 pub struct Lease {
     pub id: u32,
     pub cookie: Cookie,
+    /// By the relay's clock, which may be far from this machine's.
     pub expiration: u64,
 }
 
@@ -29,25 +35,11 @@ impl Lease {
     pub fn renews(&self, cookie: Option<&Cookie>) -> bool {
         cookie == Some(&self.cookie)
     }
-
-    fn extension_due(&self) -> Instant {
-        let now = SystemTime::now().duration_since(UNIX_EPOCH).unwrap_or_default();
-        Instant::now() + extension_wait(self.expiration, now.as_secs())
-    }
-}
-
-/// How long to wait before asking for more time, at a Unix time: half of what is left. The relay's clock may differ
-/// from this one, so it is at most half a lease, and at least a second, lest an expiration in the past make a flood.
-pub fn extension_wait(expiration: u64, now: u64) -> Duration {
-    let left = expiration.saturating_sub(now);
-    Duration::from_secs((left / 2).clamp(1, LEASE_SECONDS / 2))
 }
 
 /// What matters to a peer that waits for a session.
 enum Event {
     Session,
-    ExtensionDue,
-    Extended { expiration: u64 },
     NotExtended,
     Leased(Lease),
     LeaseRefused,
@@ -62,72 +54,73 @@ impl Peer {
 
     /// Likewise, with the cookie of an earlier lease if there was one. The relay renews that lease if it can.
     pub fn lease_again(&mut self, cookie: Option<&Cookie>) -> Result<Lease, Error> {
-        self.request_lease(cookie)?;
+        let asked = self.request_lease(cookie)?;
         let lease = self.answer(|message| match message {
             Message::LeaseGranted { id, cookie, expiration } => Lease::granted(id, cookie, expiration).map(Ok),
             Message::LeaseRefused => Some(Err(Error::LeaseRefused)),
             _ => None,
         })??;
-        Ok(*self.lease.insert(lease))
+        self.hold(&lease, asked);
+        Ok(lease)
     }
 
-    fn request_lease(&mut self, cookie: Option<&Cookie>) -> Result<(), Error> {
+    /// Gives when it was asked for: a lease begins after that.
+    fn request_lease(&mut self, cookie: Option<&Cookie>) -> Result<Instant, Error> {
+        let asked = Instant::now();
         match cookie {
             Some(cookie) => self.send(&Message::LeaseRequestWithCookie { cookie }),
             None => self.send(&Message::LeaseRequest),
-        }
+        }?;
+        Ok(asked)
     }
 
-    /// Waits until another peer has established a session with this one. The lease is extended meanwhile; if the relay
-    /// doesn't, it is asked to renew the lease, and if it leases another id then, `new_lease` is told.
+    fn hold(&mut self, lease: &Lease, asked: Instant) {
+        self.cookie = Some(lease.cookie);
+        self.outgoing.hold(Some(Held { cookie: lease.cookie, asked }));
+    }
+
+    /// Waits until another peer has established a session with this one. From now on a thread of its own extends the lease,
+    /// in the session too and whatever the peer is busy with; so this isn't for those who use [`Self::stream`]. If the relay
+    /// refuses that before there is a session, it is asked to renew the lease; if it leases another id then, `new_lease` is
+    /// told.
     pub fn await_session(&mut self, mut new_lease: impl FnMut(&Lease)) -> Result<(), Error> {
-        let mut extension_due = self.extension_due();
+        self.extend_leases()?;
+        // When it was asked for a lease that it hasn't answered yet.
+        let mut asked = None;
         loop {
-            match self.event(extension_due)? {
+            match self.event()? {
                 Event::Session => return Ok(()),
-                Event::ExtensionDue => {
-                    self.request_extension()?;
-                    extension_due = None;
+                Event::NotExtended if asked.is_none() => {
+                    // Else it could be asked for the old one once more, and refuse that after it has given the new one.
+                    self.outgoing.hold(None);
+                    let cookie = self.cookie;
+                    asked = Some(self.request_lease(cookie.as_ref())?);
                 }
-                Event::Extended { expiration } => {
-                    self.lease.iter_mut().for_each(|lease| lease.expiration = expiration);
-                    extension_due = self.extension_due();
-                }
-                Event::NotExtended => self.request_lease(self.cookie().as_ref())?,
                 Event::Leased(lease) => {
-                    if !lease.renews(self.cookie().as_ref()) {
+                    let renewed = lease.renews(self.cookie.as_ref());
+                    self.hold(&lease, asked.take().unwrap_or_else(Instant::now));
+                    if !renewed {
                         new_lease(&lease);
                     }
-                    self.lease = Some(lease);
-                    extension_due = self.extension_due();
                 }
                 Event::LeaseRefused => return Err(Error::LeaseRefused),
-                Event::Other => {}
+                Event::NotExtended | Event::Other => {}
             }
         }
     }
 
-    fn cookie(&self) -> Option<Cookie> {
-        self.lease.map(|lease| lease.cookie)
-    }
-
-    fn extension_due(&self) -> Option<Instant> {
-        self.lease.as_ref().map(Lease::extension_due)
-    }
-
-    fn request_extension(&mut self) -> Result<(), Error> {
-        let deadline = self.answer_deadline();
-        match &self.lease {
-            Some(lease) => self.outgoing.send(&Message::ExtensionRequest { cookie: &lease.cookie }, Some(deadline)),
-            None => Ok(()),
+    fn extend_leases(&mut self) -> Result<(), Error> {
+        if self.extending.is_none() {
+            let wait = self.extension_wait;
+            let extending = Routine::start("lease", &self.outgoing, NEXT_TRY, move |writer| writer.extend(wait));
+            self.extending = Some(extending.map_err(Error::Thread)?);
         }
+        Ok(())
     }
 
-    fn event(&mut self, extension_due: Option<Instant>) -> Result<Event, Error> {
-        let Some(message) = self.receive_until(extension_due)? else { return Ok(Event::ExtensionDue) };
-        Ok(match message {
+    fn event(&mut self) -> Result<Event, Error> {
+        Ok(match self.receive()? {
             Message::EstablishNotification { .. } => Event::Session,
-            Message::ExtensionGranted { expiration } => Event::Extended { expiration },
             Message::ExtensionRefused => Event::NotExtended,
             Message::LeaseGranted { id, cookie, expiration } => {
                 Lease::granted(id, cookie, expiration).map_or(Event::Other, Event::Leased)

@@ -7,9 +7,9 @@ use std::time::{Duration, Instant};
 use codec::Message;
 
 use crate::connection::{split, Closer, Incoming, Outgoing};
-use crate::heartbeat::Heartbeat;
-use crate::lease::Lease;
-use crate::Error;
+use crate::lease::{Cookie, EXTENSION_WAIT};
+use crate::routine::Routine;
+use crate::{heartbeat, Error};
 
 /// How long a connection may take that nothing answers.
 const CONNECT_WAIT: Duration = Duration::from_secs(10);
@@ -21,9 +21,12 @@ const ANSWER_WAIT: Duration = Duration::from_secs(30);
 pub struct Peer {
     pub(crate) incoming: Incoming,
     pub(crate) outgoing: Outgoing,
-    pub(crate) lease: Option<Lease>,
+    /// That of the last lease.
+    pub(crate) cookie: Option<Cookie>,
     answer_wait: Duration,
-    heartbeat: Option<Heartbeat>,
+    pub(crate) extension_wait: Duration,
+    heartbeat: Option<Routine>,
+    pub(crate) extending: Option<Routine>,
 }
 
 impl Peer {
@@ -38,7 +41,15 @@ impl Peer {
         // Answers and the end of a session are small and shouldn't wait for more.
         stream.set_nodelay(true).map_err(Error::Connection)?;
         let (incoming, outgoing) = split(stream);
-        let mut peer = Self { incoming, outgoing, lease: None, answer_wait, heartbeat: None };
+        let mut peer = Self {
+            incoming,
+            outgoing,
+            cookie: None,
+            answer_wait,
+            extension_wait: EXTENSION_WAIT,
+            heartbeat: None,
+            extending: None,
+        };
         peer.shake_hands()?;
         Ok(peer)
     }
@@ -65,10 +76,16 @@ impl Peer {
         self.answer_wait = wait;
     }
 
+    /// Sets how long after a lease or its last extension was asked for it is to be extended, from the first time that a
+    /// session is awaited.
+    pub fn set_extension_wait(&mut self, wait: Duration) {
+        self.extension_wait = wait;
+    }
+
     /// From now on a thread of its own sends a Keepalive after each such silence, whatever the peer is busy with: a relay
     /// closes a connection whose peer doesn't answer. Not for those who write to [`Self::stream`].
     pub fn keep_alive(&mut self, silence: Duration) -> Result<(), Error> {
-        self.heartbeat = Some(Heartbeat::start(&self.outgoing, silence).map_err(Error::Thread)?);
+        self.heartbeat = Some(heartbeat::start(&self.outgoing, silence).map_err(Error::Thread)?);
         Ok(())
     }
 
@@ -123,7 +140,7 @@ impl Peer {
     /// Ends the connection in order: the relay has handed on all that was sent when it closes its side.
     pub fn finish(mut self) -> Result<(), Error> {
         let deadline = self.answer_deadline();
-        self.heartbeat = None;
+        (self.heartbeat, self.extending) = (None, None);
         self.outgoing.end()?;
         loop {
             // Nothing can be answered any more, a Keepalive neither.

@@ -48,7 +48,7 @@ mod tests {
 
     use super::{greatest_cost, relay_length, REPLY_LENGTH};
     use crate::relay::Relay;
-    use crate::Clock;
+    use crate::{Clock, LeaseTerm};
 
     const NOW: u64 = 1_000;
 
@@ -81,7 +81,7 @@ mod tests {
 
     #[test]
     fn what_is_granted_costs_the_most_and_what_is_refused_less() {
-        let mut relay = Relay::fresh(Box::new(Still)).expect("a relay");
+        let mut relay = Relay::fresh(Box::new(Still), LeaseTerm::USUAL).expect("a relay");
         let [extension, with_cookie] = [[&[4][..], &[2; 24]].concat(), [&[2, 1][..], &[9; 24]].concat()];
         // The id and the cookie of connection 2's lease are its random bytes.
         let establish: &[u8] = &[6, 2, 2, 2, 2];

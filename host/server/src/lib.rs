@@ -11,6 +11,7 @@ mod connection;
 mod descriptors;
 mod event_loop;
 mod input;
+mod lease_term;
 mod limits;
 mod log;
 mod message;
@@ -26,6 +27,7 @@ mod statistics;
 mod turns;
 
 pub use clock::{Clock, JumpingClock, SystemClock, CLOCK_LIMIT};
+pub use lease_term::{KeptTerm, LeaseTerm, NoTerm};
 pub use limits::Limits;
 pub use log::{Event, Log, LogFormat, Place, Said};
 pub use port::{bind, bind_free, Listeners};

@@ -45,8 +45,8 @@ pub struct Event {
 /// What a line says.
 pub struct Said<T> {
     pub text: T,
-    /// Units that the partner is short of, as the text says too: in JSON they have a field.
-    pub shortfall: Option<u64>,
+    /// A number of the text that has a field of this name in JSON.
+    pub number: Option<(&'static str, u64)>,
 }
 
 pub struct Log {
@@ -80,7 +80,7 @@ impl Log {
 
     /// Writes a line or, in a flood, counts it.
     pub fn record(&self, event: Event, peer: Option<SocketAddr>, text: impl Display) {
-        self.record_with(event, peer, || Said { text, shortfall: None });
+        self.record_with(event, peer, || Said { text, number: None });
     }
 
     /// Likewise. What is only counted isn't worked out.
@@ -92,8 +92,8 @@ impl Log {
             return;
         }
         count.written += 1;
-        let Said { text, shortfall } = say();
-        state.add(self.line(event, peer, &text, shortfall));
+        let Said { text, number } = say();
+        state.add(self.line(event, peer, &text, number));
         self.changed.notify_all();
     }
 
@@ -109,11 +109,17 @@ impl Log {
         state.counts = counts;
     }
 
-    fn line(&self, event: Event, peer: Option<SocketAddr>, text: &dyn Display, shortfall: Option<u64>) -> String {
+    fn line(
+        &self,
+        event: Event,
+        peer: Option<SocketAddr>,
+        text: &dyn Display,
+        number: Option<(&'static str, u64)>,
+    ) -> String {
         let time = humantime::format_rfc3339_millis(SystemTime::now());
         match self.format {
             LogFormat::Text => text_line(time, event.place, peer, text),
-            LogFormat::Json => json_line(time, event, peer, text, shortfall),
+            LogFormat::Json => json_line(time, event, peer, text, number),
         }
     }
 
@@ -205,7 +211,7 @@ fn json_line(
     event: Event,
     peer: Option<SocketAddr>,
     text: &dyn Display,
-    shortfall: Option<u64>,
+    number: Option<(&'static str, u64)>,
 ) -> String {
     let (partner, connection) = event.place.numbers();
     let fields = [
@@ -215,8 +221,8 @@ fn json_line(
         ("connection", connection.map(|number| json!(number))),
         ("peer", peer.map(|address| json!(address.to_string()))),
         ("text", Some(json!(text.to_string()))),
-        ("shortfall", shortfall.map(|units| json!(units))),
     ];
-    let known = fields.into_iter().filter_map(|(name, value)| Some((name.to_owned(), value?)));
+    let number = number.map(|(name, number)| (name, Some(json!(number))));
+    let known = fields.into_iter().chain(number).filter_map(|(name, value)| Some((name.to_owned(), value?)));
     Value::Object(known.collect::<Map<_, _>>()).to_string()
 }

@@ -5,14 +5,17 @@ use engine::relay::{self, Answer};
 
 use crate::calls::{relay_length, REPLY_LENGTH};
 use crate::clock::Clock;
+use crate::lease_term::{KeptTerm, LeaseTerm};
 use crate::refusal::Refusal;
 use crate::{CONNECTIONS_EACH, PARTNERS};
 
 /// Bytes of an allowance's record: the level and the time of its update, most significant byte first. There is one for each
-/// partner, and a last one, whose time is the relay's clock.
+/// partner, and a last one that is nobody's: its numbers are the leases' term and the relay's clock.
 const RECORD_LENGTH: usize = 16;
 /// Bytes of each of these numbers.
 const NUMBER_LENGTH: usize = RECORD_LENGTH / 2;
+/// A record of the allowances.
+type Record = [u8; RECORD_LENGTH];
 /// Bytes of a lease's record, which begins with its expiry.
 const LEASE_LENGTH: usize = 40;
 /// The most that a partner has, and what it gets each second.
@@ -38,21 +41,34 @@ impl Tables {
 
     /// The latest reading that a call was accepted at.
     pub fn clock(&self) -> u64 {
-        let [_, clock] = self.allowance(PARTNERS);
+        let [_, clock] = self.term_and_clock();
         clock
+    }
+
+    /// For how long leases are given, renewed and extended.
+    pub fn lease_term(&self) -> KeptTerm {
+        let [term, _] = self.term_and_clock();
+        KeptTerm::from_number(term)
     }
 
     /// What a partner has at a time: "A level above 262,144 reads as 262,144; a moment after the reading gives no refill."
     pub fn level(&self, partner: usize, time: u64) -> u64 {
-        let [level, updated] = self.allowance(partner);
+        let [level, updated] = self.level_and_update(partner);
         let refill = time.saturating_sub(updated).saturating_mul(REFILL);
         level.saturating_add(refill).min(CAPACITY)
     }
 
-    /// The two numbers of a partner's record, or of the last.
-    fn allowance(&self, record: usize) -> [u64; 2] {
-        let record = &self.view().allowances[record * RECORD_LENGTH..];
-        [record, &record[NUMBER_LENGTH..]].map(number_at_start)
+    fn level_and_update(&self, partner: usize) -> [u64; 2] {
+        // The last record is no partner's, and its first number no level.
+        numbers(&self.allowances()[..PARTNERS][partner])
+    }
+
+    fn term_and_clock(&self) -> [u64; 2] {
+        numbers(&self.allowances()[PARTNERS])
+    }
+
+    fn allowances(&self) -> &[Record] {
+        self.view().allowances.as_chunks().0
     }
 
     /// When the leases end, in the order of their rows; of rows that were never leased, 0.
@@ -81,6 +97,10 @@ impl Tables {
     }
 }
 
+fn numbers(record: &Record) -> [u64; 2] {
+    [&record[..], &record[NUMBER_LENGTH..]].map(number_at_start)
+}
+
 fn number_at_start(bytes: &[u8]) -> u64 {
     bytes[..NUMBER_LENGTH].iter().fold(0, |number, byte| number << 8 | u64::from(*byte))
 }
@@ -93,10 +113,10 @@ pub struct Relay {
 
 impl Relay {
     /// A fresh relay. A clock out of the engine's range is refused.
-    pub fn fresh(clock: Box<dyn Clock>) -> Result<Self, Refusal> {
+    pub fn fresh(clock: Box<dyn Clock>, term: LeaseTerm) -> Result<Self, Refusal> {
         let mut relay = Self { tables: Tables([0; Tables::SIZE]), clock, latest: 0 };
         let now = relay.now();
-        accepted(relay::fresh(relay.tables.lend(), now))?;
+        accepted(relay::fresh(relay.tables.lend(), now, term.seconds()))?;
         Ok(relay)
     }
 
@@ -178,17 +198,22 @@ fn accepted(answer: Answer) -> Result<Answer, Refusal> {
 
 #[cfg(test)]
 mod tests {
+    use codec::Message;
     use engine::{reasons, relay};
 
     use super::{Relay, Tables, RECORD_LENGTH, REPLY_LENGTH};
-    use crate::{JumpingClock, CLOCK_LIMIT, CONNECTIONS_EACH, PARTNERS};
+    use crate::{JumpingClock, KeptTerm, LeaseTerm, CLOCK_LIMIT, CONNECTIONS_EACH, PARTNERS};
 
-    /// Tables of a fresh relay with another allowance of this partner.
-    fn tables(partner: usize, level: u64, updated: u64) -> Tables {
-        let mut tables = Relay::fresh(Box::<JumpingClock>::default()).expect("a relay").tables().clone();
-        let start = Tables::SIZE - relay::ALLOWANCES + partner * RECORD_LENGTH;
-        tables.0[start..][..RECORD_LENGTH].copy_from_slice(&[level.to_be_bytes(), updated.to_be_bytes()].concat());
+    /// Tables of a fresh relay with other numbers in a partner's record of the allowances, or in the last.
+    fn tables(record: usize, numbers: [u64; 2]) -> Tables {
+        let mut tables = fresh(LeaseTerm::USUAL);
+        let start = Tables::SIZE - relay::ALLOWANCES + record * RECORD_LENGTH;
+        tables.0[start..][..RECORD_LENGTH].copy_from_slice(&numbers.map(u64::to_be_bytes).concat());
         tables
+    }
+
+    fn fresh(term: LeaseTerm) -> Tables {
+        Relay::fresh(Box::<JumpingClock>::default(), term).expect("a relay").tables().clone()
     }
 
     /// What an open, which costs 45, would leave is the engine's word.
@@ -198,7 +223,7 @@ mod tests {
         let levels = [0, 1, 44, 45, 65_536, 262_143, 262_144, 262_145, u64::MAX];
         for partner in 0..PARTNERS {
             for (level, updated) in levels.iter().flat_map(|level| updates.map(|updated| (*level, updated))) {
-                let tables = tables(partner, level, updated);
+                let tables = tables(partner, [level, updated]);
                 for time in [4, 7, 8, 9, 10, 11, 100, CLOCK_LIMIT - 1] {
                     let connection = (partner * CONNECTIONS_EACH) as u64;
                     let left = reasons::open(tables.view(), time, connection, REPLY_LENGTH as u64).headroom;
@@ -206,6 +231,65 @@ mod tests {
                     assert_eq!(told as i64 - 45, left, "{level} of {updated} at {time}, partner {partner}");
                 }
             }
+        }
+    }
+
+    #[test]
+    #[should_panic(expected = "out of bounds")]
+    fn the_last_record_has_no_level() {
+        fresh(LeaseTerm::USUAL).level(PARTNERS, 4);
+    }
+
+    const NOW: u64 = 1_000;
+
+    /// The engine's reply to a message of connection 0 that comes with these random bytes.
+    fn reply(tables: &mut Tables, message: Message, random: u8) -> Vec<u8> {
+        let (mut reply, mut relayed) = (vec![0; REPLY_LENGTH], [0; relay::BUFFER]);
+        let (bytes, random) = (codec::encode(&message).expect("a message"), [random; relay::RANDOM]);
+        let answer = relay::message(tables.lend(), NOW, 0, &bytes, &random, &mut reply, &mut relayed);
+        assert_eq!(answer.number, 0, "{message:?}");
+        reply.truncate(answer.reply as usize);
+        reply
+    }
+
+    fn open(tables: &mut Tables) {
+        assert_eq!(relay::open(tables.lend(), NOW, 0, &mut [0; REPLY_LENGTH]).number, 0);
+        reply(tables, Message::VersionAnswer { ok: 1 }, 0);
+    }
+
+    /// For how long the engine gives a lease, extends it, and renews it for who comes back.
+    fn engine_terms(mut tables: Tables) -> [u64; 3] {
+        // That of a lease is the first of its random bytes.
+        let cookie = &[1; codec::COOKIE_LENGTH];
+        open(&mut tables);
+        let given = reply(&mut tables, Message::LeaseRequest, 1);
+        let extended = reply(&mut tables, Message::ExtensionRequest { cookie }, 0);
+        assert_eq!(relay::close(tables.lend(), NOW, 0, &mut [0; relay::BUFFER]).number, 0);
+        open(&mut tables);
+        let renewed = reply(&mut tables, Message::LeaseRequestWithCookie { cookie }, 2);
+        [given, extended, renewed].map(|reply| match codec::decode(&reply) {
+            Some(Message::LeaseGranted { expiration, .. } | Message::ExtensionGranted { expiration }) => {
+                expiration - NOW
+            }
+            other => panic!("{other:?}"),
+        })
+    }
+
+    #[test]
+    fn the_term_is_what_the_engine_takes_it_for() {
+        let numbers = [0, 1, 599, 600, 601, 3_600, 86_399, 86_400, 86_401, (1 << 32) + 600, u64::MAX];
+        for number in numbers {
+            let tables = tables(PARTNERS, [number, 4]);
+            assert_eq!(engine_terms(tables.clone()), [tables.lease_term().seconds(); 3], "{number}");
+        }
+    }
+
+    #[test]
+    fn a_fresh_relay_keeps_the_term_that_it_is_given() {
+        for term in [600, 601, 86_400].map(|seconds| LeaseTerm::new(seconds).expect("a term")) {
+            let tables = fresh(term);
+            assert_eq!(tables.lease_term(), KeptTerm::Given(term));
+            assert_eq!(engine_terms(tables), [term.seconds(); 3]);
         }
     }
 }

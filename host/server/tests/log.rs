@@ -69,11 +69,11 @@ fn a_json_line_is_an_object_with_what_is_known() {
 }
 
 #[test]
-fn a_shortfall_has_a_field_in_json_only_if_there_is_one() {
+fn a_number_has_a_field_in_json_only_if_there_is_one() {
     let (json, text) = (Kept::new(LogFormat::Json), Kept::new(LogFormat::Text));
     for kept in [&json, &text] {
-        kept.log.record_with(REFUSED, None, || Said { text: "12 units short", shortfall: Some(12) });
-        kept.log.record_with(REFUSED, None, || Said { text: "not short", shortfall: None });
+        kept.log.record_with(REFUSED, None, || Said { text: "12 units short", number: Some(("shortfall", 12)) });
+        kept.log.record_with(REFUSED, None, || Said { text: "not short", number: None });
     }
     let objects: Vec<serde_json::Value> =
         json.written().iter().map(|line| serde_json::from_str(line).expect("an object")).collect();
@@ -81,7 +81,8 @@ fn a_shortfall_has_a_field_in_json_only_if_there_is_one() {
     assert!(objects[1].get("shortfall").is_none(), "{}", objects[1]);
     assert_eq!(text.texts(), ["partner 2, connection 17: 12 units short", "partner 2, connection 17: not short"]);
     // A line that sums up has none, whatever the others had.
-    (0..20).for_each(|_| json.log.record_with(REFUSED, None, || Said { text: "short", shortfall: Some(1) }));
+    (0..20)
+        .for_each(|_| json.log.record_with(REFUSED, None, || Said { text: "short", number: Some(("shortfall", 1)) }));
     json.log.sum_up();
     let last = json.written().pop().expect("a line");
     assert!(last.contains("times more") && !last.contains("shortfall"), "{last}");
@@ -93,7 +94,7 @@ fn what_is_only_counted_is_not_worked_out() {
     let worked_out = Cell::new(0);
     let say = || {
         worked_out.set(worked_out.get() + 1);
-        Said { text: "short", shortfall: Some(1) }
+        Said { text: "short", number: Some(("shortfall", 1)) }
     };
     (0..1_000).for_each(|_| kept.log.record_with(REFUSED, None, say));
     assert_eq!((kept.written().len(), worked_out.get()), (10, 10));

@@ -8,6 +8,7 @@ use codec::{Message, DATA_LIMIT};
 use engine::relay::{self, Answer, BUFFER, NOBODY, RANDOM};
 use engine::RelayBuffer;
 use model::Tables;
+use server::LeaseTerm;
 
 use super::relays::{Call, Engine, Kind, Lent, Relay};
 
@@ -139,7 +140,8 @@ impl Lent {
             allowances: vec![0; relay::ALLOWANCES],
         };
         let Tables { connections, leases, allowances } = &mut tables;
-        let answer = relay::fresh(relay::Tables { connections, leases, allowances }, START);
+        let lent = relay::Tables { connections, leases, allowances };
+        let answer = relay::fresh(lent, START, LeaseTerm::USUAL.seconds());
         let random = random_bytes([FREE]);
         let lent = Self { now: START, tables, random, reply: [0; BUFFER], relay: RelayBuffer::new(relay_length) };
         (answer == nothing()).then_some(lent)

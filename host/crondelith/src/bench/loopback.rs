@@ -6,10 +6,10 @@ use std::thread;
 use std::time::{Duration, Instant};
 
 use codec::{Message, DATA_LIMIT};
-use peer::Peer;
 use server::{bind_free, JumpingClock, Log, LogFormat, Server, Settings};
 
 use super::measure::Medians;
+use super::peers::session;
 use super::{Row, Section};
 use crate::Failure;
 
@@ -29,7 +29,7 @@ fn measure() -> io::Result<Row> {
     let frame = largest_frame().ok_or(io::ErrorKind::InvalidData)?;
     let settings = Settings::new(JumpingClock::default(), Log::new(LogFormat::Text, |_| ()));
     let server = bind_free().and_then(|listeners| Server::start(listeners, settings))?;
-    let (caller, holder) = session(&server).map_err(io::Error::other)?;
+    let (caller, holder) = session(server.addresses()[0]).map_err(io::Error::other)?;
     let (mut relayed, mut copied) = (Vec::new(), Vec::new());
     for _ in 0..ROUNDS {
         relayed.push(round(caller.stream(), holder.stream(), &frame)?);
@@ -47,16 +47,6 @@ fn largest_frame() -> Option<Vec<u8>> {
     let mut frame = Vec::new();
     frames::append(&codec::encode(&Message::DataSend { data: &[7; DATA_LIMIT] })?, &mut frame)?;
     Some(frame)
-}
-
-/// Two connections of a partner, in session.
-fn session(server: &Server) -> Result<(Peer, Peer), peer::Error> {
-    let address = server.addresses()[0];
-    let (mut caller, mut holder) = (Peer::connect(address)?, Peer::connect(address)?);
-    let id = holder.lease()?;
-    caller.establish(id)?;
-    holder.await_session(|_| ())?;
-    Ok((caller, holder))
 }
 
 /// The time in which the frames, sent to the one socket, come out of the other: as many bytes, whatever is between.

@@ -18,6 +18,8 @@ pub struct Explanation {
     pub payable_at: Option<u64>,
     /// What a keepalive check would do.
     pub due: Option<Due>,
+    /// When a lease that was given at that time would end.
+    pub expiration: Option<u64>,
 }
 
 /// What a charged call costs, and what its partner has.
@@ -51,7 +53,9 @@ impl Explanation {
         let level = call.partner().map(|partner| tables.level(partner as usize, call.time));
         let payable_at = reason.shortfall().and_then(|_| call.payable_at(tables));
         let due = call.due(tables).filter(|_| reason.check == 0);
-        Self { call, clock: tables.clock(), reason, level, payable_at, due }
+        let is_lease = (reason.request, reason.condition) == (LEASE, 0);
+        let expiration = is_lease.then(|| call.time + tables.lease_term().seconds());
+        Self { call, clock: tables.clock(), reason, level, payable_at, due, expiration }
     }
 
     /// The check that stops the call, if any.

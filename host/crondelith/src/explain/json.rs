@@ -32,7 +32,7 @@ impl Explanation {
         ]
     }
 
-    fn about_answer(&self) -> [(&'static str, Value); 9] {
+    fn about_answer(&self) -> [(&'static str, Value); 10] {
         let decision = self.decision();
         let (request, condition, status) = match decision {
             Some(Decision::Lease(condition)) => (Some("lease"), Some(condition), None),
@@ -49,6 +49,7 @@ impl Explanation {
             ("condition", json!(condition)),
             ("status", json!(status)),
             ("decision", json!(decision.map(words::decision))),
+            ("expiration", json!(self.expiration)),
         ]
     }
 

@@ -42,11 +42,11 @@ Tells whether the peer of a connection would be asked if it is there, or its con
 the relay finds out every second; or why not. A Keepalive that a peer sends is a message.";
 
 const DETAILS: &str = "\
-It says which check stops the call, or that it would be done; whether a lease would be accepted, or
-which of the four conditions fails first; whether a session would be established, or the status why
-not; whether a peer would be sent a Keepalive, or has left one unanswered for too long; what the
-call costs and what the partner has; and what is left, or how much is missing and after how many
-seconds it can be paid. For instance, a lease request from connection 9, now:
+It says which check stops the call, or that it would be done; whether a lease would be accepted, and
+until when, or which of the four conditions fails first; whether a session would be established, or
+the status why not; whether a peer would be sent a Keepalive, or has left one unanswered for too
+long; what the call costs and what the partner has; and what is left, or how much is missing and
+after how many seconds it can be paid. For instance, a lease request from connection 9, now:
 
   crondelith explain relay.state message --connection 9 --hex 0200 --time $(date +%s)
 
@@ -70,7 +70,8 @@ them, until it starts again.
 
 With '--json' the same is one object. It has what applies of these: call, connection, partner, time,
 clock, message_length, message_type; check, done, reason, meaning, follows, request, condition,
-status, decision; free, cost, level, headroom, left, shortfall, payable_at, payable_after.
+status, decision, expiration; free, cost, level, headroom, left, shortfall, payable_at,
+payable_after.
 
 The exit status is 0 if all this could be told, also of a call that would be refused; 1 if a file
 can't be read or the answer can't be written, also when interrupted before (Ctrl-C); and 2 if the

@@ -2,9 +2,11 @@
 
 use std::collections::BTreeSet;
 
+use codec::Message;
 use engine::reasons::{Reason, ESTABLISH, LEASE};
+use engine::relay::{self, BUFFER, RANDOM};
 use serde_json::{json, Value};
-use server::{CLOCK_LIMIT, CONNECTIONS_EACH};
+use server::{Tables, CLOCK_LIMIT, CONNECTIONS_EACH};
 
 use super::call::{Action, Call, Due, CONNECTIONS};
 use super::explanation::Explanation;
@@ -41,7 +43,7 @@ const MALFORMED: [(&[u8], &str); 7] = [
 /// A call of the connection, at the clock's time, when the partner has all that it can have.
 fn explanation(action: Action, reason: Reason) -> Explanation {
     let call = Call { connection: CONNECTION, time: CLOCK, action };
-    Explanation { call, clock: CLOCK, reason, level: Some(FULL), payable_at: None, due: None }
+    Explanation { call, clock: CLOCK, reason, level: Some(FULL), payable_at: None, due: None, expiration: None }
 }
 
 /// Likewise one that its partner has so many units for, and is short of some.
@@ -279,6 +281,61 @@ fn each_condition_of_a_lease_has_words() {
     }
 }
 
+/// The tables of a fresh relay with this term, on which the connection is open.
+fn fresh(term: u64) -> Tables {
+    let mut tables = Tables::from_bytes(&[0; Tables::SIZE]).expect("tables");
+    let (mut reply, mut relayed) = ([0; BUFFER], [0; BUFFER]);
+    let answers = [
+        relay::fresh(tables.lend(), CLOCK, term),
+        relay::open(tables.lend(), CLOCK, CONNECTION, &mut reply),
+        relay::message(tables.lend(), CLOCK, CONNECTION, &[1, 1], &[0; RANDOM], &mut reply, &mut relayed),
+    ];
+    assert!(answers.iter().all(|answer| answer.number == 0), "{answers:?}");
+    tables
+}
+
+/// What a lease's reply has, at a time.
+fn engine_expiration(tables: &mut Tables, time: u64) -> Option<u64> {
+    let (mut reply, mut relayed) = ([0; BUFFER], [0; BUFFER]);
+    let answer = relay::message(tables.lend(), time, CONNECTION, &[2, 0], &[0; RANDOM], &mut reply, &mut relayed);
+    match codec::decode(&reply[..answer.reply as usize]) {
+        Some(Message::LeaseGranted { expiration, .. }) => Some(expiration),
+        _ => None,
+    }
+}
+
+#[test]
+fn the_end_of_a_lease_is_what_the_relay_would_tell() {
+    for (term, time) in [(0, CLOCK), (600, CLOCK + 7), (1_200, CLOCK), (86_400, CLOCK_LIMIT - 1)] {
+        let mut tables = fresh(term);
+        let explain =
+            |tables: &Tables| Explanation::new(Call { connection: CONNECTION, time, action: message(&[2, 0]) }, tables);
+        let told = explain(&tables);
+        assert!(told.expiration.is_some());
+        assert_eq!(told.expiration, engine_expiration(&mut tables, time), "{term} at {time}");
+        // The connection holds a lease now, and gets no other.
+        assert_eq!(explain(&tables).expiration, None);
+    }
+}
+
+#[test]
+fn the_end_of_a_lease_has_words() {
+    let told = Explanation { expiration: Some(CLOCK + 1_200), ..explanation(message(&[2, 0]), decided(LEASE, 0)) };
+    assert_text(
+        &told,
+        &[
+            &format!("Call:       message from connection {CONNECTION} of partner 1: 2 bytes, type 2 (lease request)"),
+            NOW,
+            "Answer:     0, it would be done",
+            "Lease:      accepted, all four conditions hold",
+            "Until:      1794814109 (2026-11-16T07:28:29Z), 1,200 seconds later, unless it is extended",
+            "Cost:       261,144 units",
+            "Allowance:  the partner has 262,144 units and keeps 1,000",
+        ],
+    );
+    assert_eq!(told.to_json()["expiration"], CLOCK + 1_200);
+}
+
 #[test]
 fn each_status_has_words() {
     let words =
@@ -296,7 +353,8 @@ fn each_status_has_words() {
 #[test]
 fn any_numbers_have_words() {
     let call = Call { connection: u64::MAX, time: u64::MAX, action: OPEN };
-    let told = Explanation { call, clock: 0, reason: refused(2), level: None, payable_at: None, due: None };
+    let told =
+        Explanation { call, clock: 0, reason: refused(2), level: None, payable_at: None, due: None, expiration: None };
     assert_eq!(line(&told, "Call:").expect("a call"), "open of connection 18446744073709551615");
     assert_eq!(line(&told, "Time:").expect("a time"), "18446744073709551615; the file's clock is at 0");
     assert_eq!(line(&told, "Meaning:").expect("words"), "times are below 1,099,511,627,776");
@@ -307,7 +365,7 @@ fn any_numbers_have_words() {
 #[test]
 fn the_help_names_every_field() {
     let short = short(message(&[2, 0]), 71, 1);
-    let lease = explanation(message(&[2, 0]), decided(LEASE, 1));
+    let lease = Explanation { expiration: Some(CLOCK), ..explanation(message(&[2, 0]), decided(LEASE, 0)) };
     let session = explanation(message(&[6, 0, 0, 0, 5]), decided(ESTABLISH, 1));
     let objects = [short, lease, session].map(|told| told.to_json());
     let told: BTreeSet<_> = objects.iter().flat_map(|object| object.as_object().expect("an object").keys()).collect();
@@ -321,7 +379,7 @@ fn the_help_names_every_field() {
 fn numbers_at_their_limits_have_words() {
     let told = |connection, time| {
         let call = Call { connection, time, action: OPEN };
-        Explanation { call, clock: 0, reason: refused(2), level: None, payable_at: None, due: None }
+        Explanation { call, clock: 0, reason: refused(2), level: None, payable_at: None, due: None, expiration: None }
     };
     assert_eq!(line(&told(0, CLOCK_LIMIT), "Meaning:").expect("words"), "times are below 1,099,511,627,776");
     let last = told(CONNECTIONS - 1, 0);

@@ -33,6 +33,7 @@ impl Explanation {
             words::meaning(self).map(|meaning| ("Meaning:", meaning)),
             self.follows().map(|follows| ("Follows:", follows)),
             decision,
+            self.expiration.map(|end| ("Until:", self.until(end))),
             Some(("Cost:", self.cost())),
             self.allowance().map(|allowance| ("Allowance:", allowance_left(allowance))),
             self.reason.shortfall().map(|_| ("Payable:", self.payable())),
@@ -62,6 +63,10 @@ impl Explanation {
             (None, Some(true)) => "nothing, the call is free".into(),
             _ => "nothing, a call refused so isn't charged".into(),
         }
+    }
+
+    fn until(&self, end: u64) -> String {
+        format!("{}, {} seconds later, unless it is extended", date(end), grouped(end - self.call.time))
     }
 
     fn payable(&self) -> String {

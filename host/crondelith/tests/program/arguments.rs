@@ -44,7 +44,7 @@ fn every_command_has_help() {
 #[test]
 fn the_help_shows_every_default() {
     let defaults: [(&str, &[&str]); 3] = [
-        ("serve", &["127.0.0.1", "7700", "none", "text"]),
+        ("serve", &["127.0.0.1", "7700", "none", "600", "text"]),
         ("peer", &["127.0.0.1", "7700", "0", "never", "16384"]),
         ("explain", &["the file's clock", "80 fresh ones", "64", "the message's length, or 64 if that is more"]),
     ];
@@ -63,7 +63,7 @@ fn the_version_is_printed() {
 }
 
 /// Arguments, and the reason why they are wrong.
-const WRONG: [(&[&str], &str); 59] = [
+const WRONG: [(&[&str], &str); 62] = [
     (&[], "'crondelith' requires a subcommand"),
     (&["dance"], "'dance' wasn't recognized"),
     (&["help", "dance"], "'dance' wasn't recognized"),
@@ -75,6 +75,9 @@ const WRONG: [(&[&str], &str); 59] = [
     (&["serve", "--port", "0"], "0 is not in 1..=65528"),
     (&["serve", "--port", "1", "--base-port", "2"], "more than once"),
     (&["serve", "--listen", "localhost"], "'localhost' for '--listen <ADDRESS>'"),
+    (&["serve", "--lease-term"], "'--lease-term <SECONDS>' requires a value"),
+    (&["serve", "--lease-term", "599"], "a lease's term is 600 to 86400 seconds"),
+    (&["serve", "--lease-term", "600", "--lease-term", "600"], "more than once"),
     (&["serve", "--log", "xml"], "'xml' isn't a valid value for '--log <FORMAT>'"),
     (&["demo", "--fast"], "'--fast' which wasn't expected"),
     (&["bench", "all"], "'all' which wasn't expected"),

@@ -5,6 +5,7 @@ mod bad_days;
 mod cookies;
 mod demo;
 mod explain;
+mod lease_term;
 mod outputs;
 mod serve;
 mod signals;

@@ -4,7 +4,7 @@ use std::net::TcpListener;
 use std::time::Duration;
 
 use serde_json::Value;
-use server::Limits;
+use server::{LeaseTerm, Limits};
 
 use crate::support::{folder, program, run, text, write_file, Relay, Running};
 
@@ -90,7 +90,9 @@ fn event(line: &str) -> Value {
 #[test]
 fn the_notes_of_a_json_log_are_json() {
     let relay = Relay::start(&["--log", "json", "--listen", "::1"]);
-    let events: Vec<_> = relay.first_lines.lines().map(event).collect();
+    // The relay's own line about the term of leases comes at any time.
+    let own = |event: &Value| event["event"] != "lease term";
+    let events: Vec<_> = relay.first_lines.lines().map(event).filter(own).collect();
     for (partner, event) in events.iter().take(8).enumerate() {
         let address = format!("[::1]:{}", usize::from(relay.base_port) + partner);
         assert!(event["event"] == "listening" && event["partner"] == partner && event["address"] == address, "{event}");
@@ -122,6 +124,7 @@ fn the_help_tells_the_limits() {
         format!("has {last_words} seconds to be written"),
         format!("can't be opened in {open} for want of allowance"),
         format!("stood still for {standstill} seconds itself judges nobody for {standstill} more"),
+        format!("How long leases last, {} to {}", LeaseTerm::USUAL.seconds(), LeaseTerm::LONGEST.seconds()),
     ] {
         assert!(help.contains(&told), "{told}: {help}");
     }

@@ -7,7 +7,7 @@ use std::path::Path;
 use std::time::Duration;
 
 use codec::{Message, Session};
-use peer::Fingerprint;
+use peer::{Fingerprint, EXTENSION_WAIT};
 
 use crate::support::{becomes_true, files, folder, program, run, text, write_file, Relay, Running};
 
@@ -61,12 +61,12 @@ fn a_transfer_that_stands_still_is_given_up_at_its_limit() {
     assert!(ended.last_line().contains("2 s"), "{}", ended.stderr);
 }
 
-/// Waits for a program's thread that tells a relay of it while its others wait for a disk, say.
-fn has_heartbeat(running: &Running) -> bool {
+/// Waits for a program's thread of this name, which says something to a relay while the others wait for a disk, say.
+fn has_thread(running: &Running, thread: &str) -> bool {
     becomes_true(Duration::from_secs(5), || {
         let threads = fs::read_dir(format!("/proc/{}/task", running.id())).expect("its threads");
         let mut names = threads.flatten().map(|thread| fs::read_to_string(thread.path().join("comm")));
-        names.any(|name| name.is_ok_and(|name| name.trim() == "heartbeat"))
+        names.any(|name| name.is_ok_and(|name| name.trim() == thread))
     })
 }
 
@@ -77,10 +77,17 @@ fn either_side_can_say_that_it_is_there_whatever_it_waits_for() {
     let original = folder.join("original");
     write_file(&original, 1_000_000);
     let (receiver, id) = relay.receiver(&folder.join("copy"), &[]);
-    assert!(has_heartbeat(&receiver));
+    assert!(has_thread(&receiver, "heartbeat") && has_thread(&receiver, "lease"));
     let mut sender = Running::start(&mut relay.peer(&["send", &id, text(&original)]));
     sender.await_line("the session is established").expect("a session");
-    assert!(has_heartbeat(&sender));
+    assert!(has_thread(&sender, "heartbeat"));
+}
+
+#[test]
+fn the_help_tells_how_often_a_lease_is_extended() {
+    let help = run(&["help", "peer"]).stdout;
+    let told = format!("extends its lease every {} minutes", EXTENSION_WAIT.as_secs() / 60);
+    assert!(help.contains(&told), "{help}");
 }
 
 /// A receiver at a relay of the test's own, which sends it a file of one byte, all but the digest.

@@ -3,10 +3,10 @@
 use std::net::{SocketAddr, TcpListener};
 use std::sync::mpsc;
 use std::thread::{self, JoinHandle};
-use std::time::{Duration, Instant, SystemTime, UNIX_EPOCH};
+use std::time::{Duration, Instant};
 
 use codec::{Message, DATA_LIMIT};
-use peer::{confirm, extension_wait, receive_contents, Error, Lease, Patience, Peer};
+use peer::{confirm, Error, Lease, Peer};
 
 use crate::support::{assert_words, fingerprint, scripted, Connection, COOKIE, ID, LATER, SESSION, VERSION};
 
@@ -196,99 +196,6 @@ fn a_deadline_loses_no_byte() {
     peer.end_session().expect("a connection");
     assert_eq!(peer.receive().expect("a message"), Message::SessionEndNotification);
     peer.finish().expect("the end");
-    relay.join().expect("the relay");
-}
-
-#[test]
-fn an_extension_is_due_at_half_of_what_is_left() {
-    let seconds = |expiration, now| extension_wait(expiration, now).as_secs();
-    assert_eq!(seconds(3_700, 100), 1_800);
-    assert_eq!(seconds(3_700, 2_700), 500);
-    // Clocks that differ: not too late, and no flood.
-    assert_eq!(seconds(9_999, 100), 1_800);
-    assert_eq!(seconds(3_700, 5_000), 1);
-}
-
-#[test]
-fn a_lease_is_extended_and_else_another_id_leased() {
-    let soon = SystemTime::now().duration_since(UNIX_EPOCH).expect("a time").as_secs() + 2;
-    let (address, relay) = scripted(move |mut connection| {
-        connection.shake_hands();
-        connection.grant_lease(soon);
-        connection.expect(Message::ExtensionRequest { cookie: &COOKIE });
-        let asked = Instant::now();
-        connection.send(Message::ExtensionGranted { expiration: soon + 6 });
-        connection.expect(Message::ExtensionRequest { cookie: &COOKIE });
-        // Half of what the extension left, and not of the first lease.
-        assert!(asked.elapsed() > Duration::from_millis(1_500));
-        connection.send(Message::ExtensionRefused);
-        connection.expect(Message::LeaseRequestWithCookie { cookie: &COOKIE });
-        connection.send(Message::LeaseGranted { id: 77, cookie: &[8; 24], expiration: 0 });
-        connection.expect(Message::ExtensionRequest { cookie: &[8; 24] });
-        connection.send(Message::EstablishNotification { session: SESSION });
-    });
-    let mut peer = Peer::connect(address).expect("a handshake");
-    assert_eq!(peer.lease().expect("a lease"), ID);
-    let mut leases = Vec::new();
-    peer.await_session(|lease| leases.push(*lease)).expect("a session");
-    assert_eq!(leases, [Lease { id: 77, cookie: [8; 24], expiration: 0 }]);
-    relay.join().expect("the relay");
-}
-
-/// Its request for more time came too late, say.
-#[test]
-fn a_lease_that_has_ended_is_renewed() {
-    let (address, relay) = scripted(|mut connection| {
-        connection.shake_hands();
-        connection.grant_lease(0);
-        for _ in 0..2 {
-            connection.expect(Message::ExtensionRequest { cookie: &COOKIE });
-            connection.send(Message::ExtensionRefused);
-            connection.expect(Message::LeaseRequestWithCookie { cookie: &COOKIE });
-            connection.send(Message::LeaseGranted { id: ID, cookie: &COOKIE, expiration: 0 });
-        }
-        connection.send(Message::EstablishNotification { session: SESSION });
-    });
-    let mut peer = Peer::connect(address).expect("a handshake");
-    peer.lease().expect("a lease");
-    peer.await_session(|_| panic!("no new id")).expect("a session");
-    relay.join().expect("the relay");
-}
-
-#[test]
-fn an_extension_and_another_id_refused() {
-    let (address, relay) = scripted(|mut connection| {
-        connection.shake_hands();
-        connection.grant_lease(0);
-        connection.expect(Message::ExtensionRequest { cookie: &COOKIE });
-        connection.send(Message::ExtensionRefused);
-        connection.expect(Message::LeaseRequestWithCookie { cookie: &COOKIE });
-        connection.send(Message::LeaseRefused);
-    });
-    let mut peer = Peer::connect(address).expect("a handshake");
-    peer.lease().expect("a lease");
-    assert_words(peer.await_session(|_| panic!("no new id")).expect_err("no session"), &["granted no id"]);
-    relay.join().expect("the relay");
-}
-
-#[test]
-fn a_session_that_comes_before_the_extension() {
-    let (address, relay) = scripted(|mut connection| {
-        connection.shake_hands();
-        connection.grant_lease(0);
-        connection.expect(Message::ExtensionRequest { cookie: &COOKIE });
-        connection.send(Message::EstablishNotification { session: SESSION });
-        connection.send(Message::ExtensionRefused);
-        connection.send(Message::DataReceive { data: &[0; 8] });
-        connection.send(Message::DataReceive { data: &fingerprint(b"").digest });
-        connection.drain();
-    });
-    let mut peer = Peer::connect(address).expect("a handshake");
-    peer.lease().expect("a lease");
-    peer.await_session(|_| panic!("no new id")).expect("a session");
-    let sent = receive_contents(&mut peer, Vec::new(), Patience::default(), |_| ()).expect("an empty file");
-    assert_eq!(sent, fingerprint(b""));
-    drop(peer);
     relay.join().expect("the relay");
 }
 

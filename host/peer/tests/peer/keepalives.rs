@@ -1,7 +1,6 @@
 //! A relay that asks whether a peer is there: it answers in every state, and says so by itself if it can't.
 
-use std::io::{self, Read, Write};
-use std::sync::mpsc::{self, Receiver};
+use std::sync::mpsc;
 use std::thread;
 use std::time::Duration;
 
@@ -9,8 +8,8 @@ use codec::Message;
 use peer::{receive_contents, receive_file, send_contents, send_file, Patience, Peer, MESSAGE_SIZE, SILENCE};
 
 use crate::support::{
-    announce, confirmation, fingerprint, forwarding, holder, receive_at, scripted, Connection, COOKIE, ID, LATER,
-    SESSION,
+    announce, confirmation, fingerprint, forwarding, holder, receive_at, scripted, Connection, Stuck, COOKIE, ID,
+    LATER, SESSION,
 };
 
 /// Of a heartbeat that a test waits for.
@@ -29,10 +28,7 @@ fn who_waits_for_an_answer_or_a_session_answers() {
         connection.shake_hands();
         connection.expect(Message::LeaseRequest);
         ask(&mut connection);
-        connection.send(Message::LeaseGranted { id: ID, cookie: &COOKIE, expiration: 0 });
-        connection.expect(Message::ExtensionRequest { cookie: &COOKIE });
-        ask(&mut connection);
-        connection.send(Message::ExtensionGranted { expiration: LATER });
+        connection.send(Message::LeaseGranted { id: ID, cookie: &COOKIE, expiration: LATER });
         ask(&mut connection);
         connection.send(Message::EstablishNotification { session: SESSION });
         connection.send(Message::SessionEndNotification);
@@ -99,34 +95,6 @@ fn a_sender_answers_before_within_and_after_a_file() {
     let mut peer = Peer::connect(address).expect("a handshake");
     send_file(&mut peer, ID, &file[..], length, |_| ()).expect("sent");
     relay.join().expect("the relay");
-}
-
-/// A disk that takes and gives nothing until it is told to.
-struct Stuck(Receiver<()>);
-
-impl Stuck {
-    fn wait(&self) {
-        self.0.recv().expect("the relay has heard of the peer");
-    }
-}
-
-impl Write for Stuck {
-    fn write(&mut self, bytes: &[u8]) -> io::Result<usize> {
-        self.wait();
-        Ok(bytes.len())
-    }
-
-    fn flush(&mut self) -> io::Result<()> {
-        self.wait();
-        Ok(())
-    }
-}
-
-impl Read for Stuck {
-    fn read(&mut self, _: &mut [u8]) -> io::Result<usize> {
-        self.wait();
-        Ok(0)
-    }
 }
 
 #[test]

@@ -4,6 +4,7 @@ mod address;
 mod connection;
 mod cookie_file;
 mod digest;
+mod extensions;
 mod keepalives;
 mod part_file;
 mod patience;

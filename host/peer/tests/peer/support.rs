@@ -231,6 +231,34 @@ impl<R: Read> Read for Noting<R> {
     }
 }
 
+/// A disk that takes and gives nothing until it is told to.
+pub struct Stuck(pub Receiver<()>);
+
+impl Stuck {
+    fn wait(&self) {
+        self.0.recv().expect("the relay has heard of the peer");
+    }
+}
+
+impl Write for Stuck {
+    fn write(&mut self, bytes: &[u8]) -> io::Result<usize> {
+        self.wait();
+        Ok(bytes.len())
+    }
+
+    fn flush(&mut self) -> io::Result<()> {
+        self.wait();
+        Ok(())
+    }
+}
+
+impl Read for Stuck {
+    fn read(&mut self, _: &mut [u8]) -> io::Result<usize> {
+        self.wait();
+        Ok(0)
+    }
+}
+
 pub fn fingerprint(file: &[u8]) -> Fingerprint {
     Fingerprint::read(file).expect("bytes")
 }

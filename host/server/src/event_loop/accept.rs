@@ -102,7 +102,7 @@ mod tests {
 
     use crate::event_loop::{EventLoop, Parts};
     use crate::relay::Relay;
-    use crate::{bind_free, Limits, Log, LogFormat, SystemClock};
+    use crate::{bind_free, LeaseTerm, Limits, Log, LogFormat, SystemClock};
 
     /// As README and DECISIONS tell it.
     #[test]
@@ -112,7 +112,7 @@ mod tests {
         let parts = Parts {
             poll: Poll::new().expect("a poll"),
             listeners,
-            relay: Relay::fresh(Box::new(SystemClock::new())).expect("a relay"),
+            relay: Relay::fresh(Box::new(SystemClock::new()), LeaseTerm::USUAL).expect("a relay"),
             log: Arc::new(Log::new(LogFormat::Text, |_| ())),
             limits: Limits::default(),
             saver: None,

@@ -219,7 +219,7 @@ impl EventLoop {
     }
 
     fn log_connection(&self, number: usize, kind: &'static str, text: impl Display) {
-        self.log_connection_with(number, kind, || Said { text, shortfall: None });
+        self.log_connection_with(number, kind, || Said { text, number: None });
     }
 
     fn log_connection_with<T: Display>(&self, number: usize, kind: &'static str, say: impl FnOnce() -> Said<T>) {

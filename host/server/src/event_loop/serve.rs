@@ -194,7 +194,8 @@ impl EventLoop {
             self.partner_of(number).statistics.waited += 1;
             self.log_connection_with(number, "waits", || {
                 let shortfall = self.shortfall(number, random);
-                Said { text: ShortRefusal { refusal, shortfall }, shortfall }
+                let number = shortfall.map(|units| ("shortfall", units));
+                Said { text: ShortRefusal { refusal, shortfall }, number }
             });
         }
     }

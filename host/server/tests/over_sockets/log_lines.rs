@@ -41,6 +41,15 @@ fn a_line_about_a_connection_has_its_peer_s_address() {
     await_line(&lines, &format!("partner 3, connection 24 at {first}: closed"));
 }
 
+#[test]
+fn the_term_of_leases_is_a_number_in_json() {
+    let (_server, lines) = logged(LogFormat::Json, Standing::default());
+    let line = await_line(&lines, "\"lease term\"");
+    let told: Value = serde_json::from_str(&line).expect("an object");
+    assert!(told["event"] == "lease term" && told["seconds"] == 600, "{told}");
+    assert!(told["text"] == "leases last 600 seconds" && told.get("partner").is_none(), "{told}");
+}
+
 /// A connection of partner 2 on which more keepalives come than the allowance pays for.
 fn short(server: &Server) -> Socket {
     let mut peer = Socket::over(TcpStream::connect(server.addresses()[2]).expect("the relay listens"));

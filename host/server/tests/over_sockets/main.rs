@@ -6,6 +6,7 @@ mod costs;
 mod deadlines;
 mod floods;
 mod keepalives;
+mod lease_terms;
 mod log_lines;
 mod numbers;
 mod slow_readers;

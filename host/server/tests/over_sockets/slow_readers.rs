@@ -6,7 +6,7 @@ use std::thread;
 use std::time::{Duration, Instant};
 
 use codec::{encode, Message};
-use server::{JumpingClock, Limits};
+use server::{JumpingClock, LeaseTerm, Limits};
 use socket2::SockRef;
 
 use crate::clocks::Standing;
@@ -252,7 +252,8 @@ fn who_has_ended_its_side_still_gets_what_waits() {
 #[test]
 fn who_is_told_more_than_it_reads_is_given_up() {
     let clock = Standing::default();
-    let relay = Relay::with_clock(clock.clone());
+    // The lease outlasts the callers.
+    let relay = Relay::with_settings(clock.clone(), |settings| settings.lease_term = Some(LeaseTerm::LONGEST));
     let mut holder = relay.peer(0);
     SockRef::from(&holder.stream).set_recv_buffer_size(SMALL).expect("a size");
     let id = holder.lease();

@@ -7,7 +7,7 @@ use std::thread;
 use std::time::{Duration, Instant};
 
 use codec::{encode, Message};
-use server::{bind_free, Log, LogFormat, Server, Settings, SystemClock};
+use server::{bind_free, LeaseTerm, Log, LogFormat, Server, Settings, SystemClock};
 use tempfile::TempDir;
 
 use crate::clocks::Standing;
@@ -20,7 +20,7 @@ const OPEN: u8 = 2;
 /// Where the first connection's record tells whether a Keepalive is unanswered.
 const UNANSWERED: usize = 2;
 
-fn folder() -> TempDir {
+pub fn folder() -> TempDir {
     tempfile::tempdir().expect("a folder")
 }
 
@@ -41,7 +41,7 @@ fn refusal(file: &Path) -> String {
 }
 
 /// The status that a session with the holder of the id is refused with.
-fn establish_status(relay: &Relay, id: u32) -> u8 {
+pub fn establish_status(relay: &Relay, id: u32) -> u8 {
     let mut caller = relay.peer(0);
     caller.send(Message::EstablishRequest { id });
     match codec::decode(&caller.receive().expect("an answer")) {
@@ -71,7 +71,7 @@ fn leases_and_allowances_go_on_after_a_restart() {
     assert!(!late.is_closed() && relay.server.statistics()[1].done == 0, "the allowance is still used up");
     relay.stop();
 
-    clock.advance(3_600);
+    clock.advance(LeaseTerm::USUAL.seconds());
     let relay = with_state(clock, &file);
     assert_eq!(establish_status(&relay, id), 1, "the lease has ended meanwhile");
 }

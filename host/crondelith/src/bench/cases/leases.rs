@@ -4,7 +4,7 @@ use std::ops::Range;
 
 use codec::{Message, COOKIE_LENGTH};
 use engine::relay::{BUFFER, NOBODY};
-use server::{CONNECTIONS_EACH, PARTNERS};
+use server::{LeaseTerm, CONNECTIONS_EACH, PARTNERS};
 
 use super::super::relays::{Kind, Lent};
 use super::{call, message, nothing, random_bytes, reply, Case, CALLER, FREE, REFILL_SECONDS, START};
@@ -16,7 +16,7 @@ const NEIGHBOUR: u64 = (PARTNERS * CONNECTIONS_EACH - 1) as u64;
 const PARTNER: usize = CALLER as usize / CONNECTIONS_EACH;
 
 /// Ends a lease.
-const LEASE_SECONDS: u64 = 3_601;
+const LEASE_SECONDS: u64 = LeaseTerm::USUAL.seconds() + 1;
 
 /// Candidates that are taken, all but one.
 const TAKEN: usize = 13;

@@ -21,6 +21,7 @@ mod turns;
 mod usage;
 
 pub use child::{run as run_child, WORD};
+pub use relay::session;
 
 use std::thread;
 use std::time::Duration;

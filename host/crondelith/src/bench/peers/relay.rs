@@ -109,7 +109,7 @@ impl Relay {
 }
 
 /// Two connections of a partner, in session.
-fn session(address: SocketAddr) -> Result<(Peer, Peer), peer::Error> {
+pub fn session(address: SocketAddr) -> Result<(Peer, Peer), peer::Error> {
     let (mut caller, mut holder) = (Peer::connect(address)?, Peer::connect(address)?);
     let id = holder.lease()?;
     caller.establish(id)?;

@@ -184,20 +184,20 @@ fn a_refused_lease_changes_nothing() {
     }
 }
 
+/// The refusals come unasked: the receiver asks for more time after minutes.
 #[test]
 fn an_id_that_replaces_one_while_waiting_is_kept_too() {
     let (relay, scene) = (Scripted::new(), Scene::new("cookie_not_extended"));
     let mut receiver = relay.receiver(&scene);
     let mut connection = relay.accept();
     connection.expect(Message::LeaseRequest);
-    connection.grant(5, &FIRST, 0);
+    connection.grant(5, &FIRST, LATER);
     assert_eq!(receiver.line(), "5 new");
     // Renewed, the id needs no other line.
     for (id, cookie) in [(5, FIRST), (6, SECOND)] {
-        connection.expect(Message::ExtensionRequest { cookie: &FIRST });
         connection.send(Message::ExtensionRefused);
         connection.expect(Message::LeaseRequestWithCookie { cookie: &FIRST });
-        connection.grant(id, &cookie, 0);
+        connection.grant(id, &cookie, LATER);
     }
     assert_eq!(receiver.line(), "6 new");
     assert_eq!(scene.kept(), line(&SECOND));
