@@ -42,8 +42,9 @@ typedef struct {
     uint32_t disconnect;  /* 1: the host has to disconnect the caller */
 } crondelith_answer;
 
-/* Leases are given, renewed and extended for `term` seconds from then on, 600 to 86,400; 0 means 600. The tables keep the term, as the level of
- * the ninth allowance record, and no other call changes it. Tables from before there was a term have 0 there, and leases of 3,600 seconds.
+/* Leases are given, renewed and extended for `term` seconds from the time of the call, 600 to 86,400; 0 means 600. The tables keep the term, in
+ * bytes 128 to 135 of the allowances, most significant first, and no other call changes it. Tables from before there was a term have 0 there,
+ * and leases of 3,600 seconds; any other number out of that range counts as 600.
  */
 crondelith_answer crondelith_fresh(uint8_t *connections, size_t connections_length, uint8_t *leases, size_t leases_length,
                                    uint8_t *allowances, size_t allowances_length, uint64_t now, uint64_t term);

@@ -64,7 +64,7 @@ module _ {State Call Answer : Type 0} (M : Meter State Call Answer) where
     pub stored : (s : State) (c : Call) → result s c ≡ 0 → (p : ℕ) → p < partners
         → bucket (next s c) p ≡ cond (charged c && eqb (partner c) p) (spend (bucket s p) (time c) (price s c)) (bucket s p)
 
-  -- "Fresh, at a reading t: .. the eight partners' levels 262,144, the ninth 0, every moment t." The ninth moment is the clock.
+  -- "Fresh, at a reading t: .. the eight partners' levels 262,144, .. every moment t." The ninth moment is the clock.
   pub record Fresh (s : State) (t : ℕ) : Type 0 where
     pub filled : (p : ℕ) → p < partners → bucket s p ≡ full t
     pub clocked : clock s ≡ t

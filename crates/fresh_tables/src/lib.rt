@@ -42,7 +42,7 @@ pub fn fresh_allowances(allowances: &mut [u8], time: u64, term: u64)
     requires { ⌜ length (now allowances) ≡ allowancesSize ⌝ }
     ensures { λ _. ⌜ now (allowances .exit) ≡ fresh time term .allowances ⌝ }
 {
-    let kept = lease_terms::named(term);
+    let kept = lease_terms::named_term(term);
     let mut row = [0u8; rules::ALLOWANCE_BYTES];
     octet_stores::write64(&mut row, 0, allowance::CAPACITY);
     octet_stores::write64(&mut row, rules::UPDATED_AT, time);

@@ -15,7 +15,6 @@ use Rattle.rules.specs.Sizes.{rowCount, leasesSize}
 use Rattle.rules.specs.Tables.{lent, idOf, cookieAt, cookieOf}
 use Rattle.rules.specs.Leases.{renewed, granted, randomCookie, leaseEnd, grant, renew}
 use Rattle.rules.specs.Plans.{replyOnly, planLease, refuseLease}
-use Rattle.leases.specs.declared.LeaseDecision.the-variants as decided
 use Rattle.answers.specs.declared.Answer.{Answer}
 use Rattle.answers.specs.Applied.{Handled, handled, applied, coded, replied}
 

@@ -1,5 +1,5 @@
-// How long leases last: the term that the allowance table keeps, and the one that a fresh relay is made with. A table of the right size is
-// required: the relay's check 1 comes before anything here is called.
+// How long leases last: the term that the allowance table keeps, and the one that a fresh relay is made with. A table of the right size and
+// a time in range are required: the relay's checks 1 and 2 come before anything here is called, and no answer would serve where they fail.
 ghost use mathlib.Core.Path.{_≡_};
 ghost use Prim.Native.Nat.{_<_};
 ghost use lib.ListN.{length};
@@ -14,7 +14,7 @@ fn is_in_range(term: u64) -> bool
     (rules::SHORTEST_TERM <= term) & (term <= rules::LONGEST_TERM)
 }
 
-// Whether a fresh relay may not be made with it.
+// Whether a fresh relay is refused this term.
 pub fn is_wrong(term: u64) -> bool
     ensures { λ r. ⌜ r ≡ wrongTerm term ⌝ }
 {
@@ -22,15 +22,15 @@ pub fn is_wrong(term: u64) -> bool
     !((term == 0) | in_range)
 }
 
-// What is stored where it is named.
-pub fn named(term: u64) -> u64
+// What a fresh relay stores for a term that is named.
+pub fn named_term(term: u64) -> u64
     ensures { λ r. ⌜ r ≡ namedTerm term ⌝ }
 {
     if term == 0 { rules::DEFAULT_TERM } else { term }
 }
 
 // The seconds of a lease.
-pub fn lease_term(allowances: &[u8]) -> u64
+fn lease_term(allowances: &[u8]) -> u64
     requires { ⌜ length (now allowances) ≡ allowancesSize ⌝ }
     ensures { λ r. ⌜ r ≡ leaseTerm (now (allowances .entry)) ⌝ }
 {

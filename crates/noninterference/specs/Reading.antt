@@ -31,8 +31,8 @@ pub record SameSizes (a b : Tables) : Type 0 where
 unfoldable pub liveUnderOthers : List ℕ → ℕ → ℕ → ℕ → Bool
 liveUnderOthers ls now p id = anyFrom (λ r. not (eqb (ownerOf r) p) && liveWithId ls now id r) 0 rowCount
 
--- two tables that a call of partner p, at a time, can't tell apart: its own records, "ids already live, and the clock", and the term. The ids are those of
--- the others' rows: whether another row has the id of an own live one decides on a renewal.
+-- two tables that a call of partner p, at a time, can't tell apart: its own records, "ids already live, and the clock", and the term. The ids are
+-- those of the others' rows: whether another row has the id of an own live one decides on a renewal.
 pub record SameToRead (p now : ℕ) (a b : Tables) : Type 0 where
   pub sizes : SameSizes a b
   pub own : SameRecords (λ q. q ≡ p) a b

@@ -108,7 +108,7 @@ module _ (tables : Tables) (call : Call) where
       go (yes e) = rw (is-done tables call e) (changed-both (at-record (charged call) _) at-clock)
       go (no m) = rw (refused-leaves-all tables call m) (same-refl (tables .allowances))
 
-  -- 02, Item 6: no call writes the term.
+  -- 02, Item 6: "The ninth allowance record's level keeps the term.": no call writes it.
   pub term-not-written : storedTerm (o .tables .allowances) ≡ storedTerm (tables .allowances)
   unfolding storedTerm
   term-not-written = go (ℕ-discrete (o .answer .number) 0)

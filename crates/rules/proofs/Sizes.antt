@@ -31,7 +31,7 @@ pub rates :
     × (candidateCount ≡ 14) × (candidateBytes ≡ 4)
 rates = (refl, refl, refl, refl, refl, refl, refl)
 
--- 02, Item 6: "600 seconds unless the host names another term, from 600 to 86,400"; "an old one .. keeps 3,600"
+-- 02, Item 6: "600 seconds unless the host names another term, from 600 to 86,400"; "is an old one and keeps 3,600"
 pub terms : (defaultTerm ≡ 600) × (shortestTerm ≡ 600) × (longestTerm ≡ 86400) × (oldTerm ≡ 3600)
 terms = (refl, refl, refl, refl)
 

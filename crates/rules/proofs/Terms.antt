@@ -1,6 +1,6 @@
 -- How long leases last (02, Item 6): how it is read from the tables, and that no call changes it. Assumes nothing.
-use Prim.Native.Nat.{ℕ, _+_, _^_, _≤_, _<_}
-use mathlib.Core.Path.{_≡_, refl, sym, ap, _∙_}
+use Prim.Native.Nat.{ℕ, _≤_}
+use mathlib.Core.Path.{_≡_, refl, _∙_}
 use mathlib.Core.Logic.{⊎-elim}
 use mathlib.Core.List.{List, [], _∷_}
 use native.Mathlib.Omega.{arith}
@@ -9,8 +9,7 @@ use borrow.Author.Tests.{leb-true, le-leb, lt-leb, eq-eqb, ne-eqb}
 use Rattle.octets.specs.Octets.{if_then_else_}
 use Rattle.octets.proofs.Tests.{both-right}
 use Rattle.allowance.specs.Meter as meter
-use Rattle.rules.specs.Tables.{Tables, storedTerm, termInRange, leaseTerm, namedTerm, fresh}
-use Rattle.rules.specs.Leases.{leaseEnd}
+use Rattle.rules.specs.Tables.{Tables, storedTerm, termInRange, leaseTerm}
 use Rattle.rules.specs.Layout.{TermRead}
 use Rattle.rules.specs.Calls.{Call}
 use Rattle.rules.specs.Refusals.{MayBeNamed}
@@ -77,10 +76,10 @@ module _ (lent : Tables) (now term : ℕ) (e : start lent now term .answer .numb
       (fresh-ninth now term (started-in-limit lent now term e) (⊎-elim (λ z. omega arith) (λ q. omega (arith, q .1)) may-be-named) .0)
 
   read : leaseTerm (made .allowances) ≡ named
-  read = ⊎-elim old other may-be-named
+  read = ⊎-elim default other may-be-named
     where
-      old : term ≡ 0 → leaseTerm (made .allowances) ≡ named
-      old z = term-read _ .in-range (rw (kept, z) (lit≤ tt)) (rw (kept, z) (lit≤ tt)) ∙ kept
+      default : term ≡ 0 → leaseTerm (made .allowances) ≡ named
+      default z = term-read _ .in-range (rw (kept, z) (lit≤ tt)) (rw (kept, z) (lit≤ tt)) ∙ kept
 
       other : (600 ≤ term) × (term ≤ 86400) → leaseTerm (made .allowances) ≡ named
       other q =
@@ -91,11 +90,7 @@ module _ (lent : Tables) (now term : ℕ) (e : start lent now term .answer .numb
   pub run-keeps-term : (calls : List Call) → storedTerm (after made calls .allowances) ≡ named
   run-keeps-term calls = stored-term-stays calls made ∙ kept
 
-  -- it is how long leases last,
+  -- and so long last the leases that are given, renewed or extended then: it is what MessageLaws.lease-told, lease-renewed and extension-told call
+  -- `term`.
   pub run-term : (calls : List Call) → leaseTerm (after made calls .allowances) ≡ named
   run-term calls = term-stays calls made ∙ read
-
-  -- and every lease that is given, renewed or extended then ends so many seconds later.
-  pub run-lease-end : (calls : List Call) (t : ℕ) → leaseEnd (after made calls .allowances) t ≡ t + named
-  unfolding leaseEnd
-  run-lease-end calls t = ap (λ (n : ℕ). t + n) (run-term calls)

@@ -74,11 +74,11 @@ module _ (tables : Tables) (now c : ℕ) where
       by-lease Within tables now c (decideLease cs ls now c random cookie) nothing-within
       (λ row e.
       let g = is-renewed ls now c random cs cookie row e in
-      same-rows _ (kept-renew ls row (leaseEnd al now) c (λ n. n (g .own .owner))))
+      same-rows _ (kept-renew ls row _ c (λ n. n (g .own .owner))))
       (λ row id drawn e.
       let g = is-granted ls now c random cs cookie row id drawn e in
       same-rows _
-      (kept-grant ls row (leaseEnd al now) id drawn c (λ n. n (g .own .owner))
+      (kept-grant ls row _ id drawn c (λ n. n (g .own .owner))
       (rw (g .cookie-is) (length-part-most random 0 cookieBytes))))
 
   extension-within : (cookie : List ℕ) → Within (planExtension tables now c (rowToExtend ls now c cookie))

@@ -114,6 +114,6 @@ check tables call = firstApplying 1 (checks tables call)
 unfoldable pub wrongTerm : ℕ → Bool
 wrongTerm term = not (eqb term 0 || termInRange term)
 
--- "Making a fresh relay has checks 1 and 2 and no trays."; "other terms are answered with 6, after checks 1 and 2". It has no 3, 4 and 5.
+-- "Making a fresh relay has checks 1 and 2 and no trays."; 02, Item 6: "other terms are answered with 6, after checks 1 and 2". It has no 3, 4 and 5.
 unfoldable pub checkStart : Tables → ℕ → ℕ → ℕ
 checkStart tables now term = firstApplying 1 (wrongSize tables ∷ pastLimit now ∷ false ∷ false ∷ false ∷ wrongTerm term ∷ [])

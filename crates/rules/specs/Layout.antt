@@ -1,5 +1,5 @@
--- Where each field of the three tables stands, in 01's numbers, but for how many connections and rows a partner has (proofs/Sizes); and what
--- each call brings: the words in which the other laws speak.
+-- Where each field of the three tables stands, in 01's numbers, but for how many connections and rows a partner has (proofs/Sizes); how the
+-- term is read (02, Item 6); and what each call brings: the words in which the other laws speak.
 use Prim.Native.Nat.{ℕ, _+_, _*_, _/_, _≤_, _<_}
 use mathlib.Core.Path.{_≡_}
 use mathlib.Core.Logic.{_⊎_, _↔_}

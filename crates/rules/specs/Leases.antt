@@ -1,4 +1,4 @@
--- Lease and Extension (01, "Effects"; 02, Item 2): what decides, and what is written to the rows; and which rows a close gives back.
+-- Lease and Extension (01, "Effects"; 02, Items 2 and 6): what decides, and what is written to the rows; and which rows a close gives back.
 use Prim.Native.Nat.{ℕ, zero, suc, _+_, _*_, _%_}
 use mathlib.Core.Bool.{Bool, not, _&&_}
 use mathlib.Core.List.{List}

@@ -1,4 +1,4 @@
--- The sentences of 01's checks, and of 02, Item 3, as statements: what each check of a call is proved to be, in both directions.
+-- The sentences of 01's checks, and of 02, Items 3 and 6, as statements: what each check of a call is proved to be, in both directions.
 use Prim.Native.Nat.{ℕ, _-_, _≤_, _<_, max}
 use mathlib.Core.Path.{_≡_}
 use mathlib.Core.Logic.{_≢_, _⊎_, _↔_}
@@ -94,7 +94,7 @@ pub record EachExactly (tables : Tables) (call : Call) : Type 0 where
 abbrev pub MayBeNamed : ℕ → Type 0
 MayBeNamed term = (term ≡ 0) ⊎ ((600 ≤ term) × (term ≤ 86400))
 
--- "Making a fresh relay has checks 1 and 2 and no trays."; "other terms are answered with 6, after checks 1 and 2": what a start is answered
+-- "Making a fresh relay has checks 1 and 2 and no trays."; 02, Item 6: "other terms are answered with 6, after checks 1 and 2": what a start is answered
 -- with, and that it sends nothing
 pub record StartExactly (tables : Tables) (now term : ℕ) (a : Answer) : Type 0 where
   pub done : (a .number ≡ 0) ↔ (RightSizes tables × (now < timeLimit) × MayBeNamed term)

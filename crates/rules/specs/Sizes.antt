@@ -85,7 +85,7 @@ greatestPrice = 131100
 abbrev pub retryAfter : ℕ
 retryAfter = 3
 
--- 02, Item 6: "Leases last 600 seconds unless the host names another term, from 600 to 86,400"; "an old one .. keeps 3,600"
+-- 02, Item 6: "Leases last 600 seconds unless the host names another term, from 600 to 86,400"; "is an old one and keeps 3,600"
 abbrev pub defaultTerm : ℕ
 defaultTerm = 600
 

@@ -195,11 +195,11 @@ termAt = allowanceAt partners
 unfoldable pub storedTerm : List ℕ → ℕ
 storedTerm al = numberAt al termAt 8
 
--- "from 600 to 86,400"
+-- 02, Item 6: "another term, from 600 to 86,400"
 unfoldable pub termInRange : ℕ → Bool
 termInRange term = leb shortestTerm term && leb term longestTerm
 
--- how long leases last: "A board where it holds 0 is an old one and keeps 3,600; any other number out of range reads as 600."
+-- how long leases last; 02, Item 6: "A board where it holds 0 is an old one and keeps 3,600; any other number out of range reads as 600."
 unfoldable pub leaseTerm : List ℕ → ℕ
 leaseTerm al = if eqb (storedTerm al) 0 then oldTerm else if termInRange (storedTerm al) then storedTerm al else defaultTerm
 

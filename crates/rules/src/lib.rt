@@ -47,7 +47,7 @@ pub const HOLDER_AT: usize = 12;
 
 pub const COOKIE_AT: usize = 16;
 
-// of an allowance the time of its last charge, behind the level. The last record is none: it has the term of leases and the clock.
+// of an allowance the time of its last charge, behind the level. The last record is no allowance: it has the term of leases and the clock.
 pub const UPDATED_AT: usize = 8;
 
 pub const TERM_AT: usize = ALLOWANCE_BYTES * PARTNERS;
@@ -92,7 +92,7 @@ pub const LONGEST_TERM: u64 = 86400;
 
 pub const OLD_TERM: u64 = 3600;
 
-// The candidates for its id, their bytes, and the first number that is no id.
+// The candidates for a lease's id, their bytes, and the first number that is no id.
 pub const CANDIDATE_COUNT: usize = 14;
 
 pub const CANDIDATE_BYTES: usize = 4;

@@ -1,12 +1,12 @@
 -- The term of leases (02, Item 6), worked out by hand: a row has the term that is named, or the number that the tables keep, what the definitions
 -- give and what must come of it.
 use Prim.Native.Nat.{ℕ, _+_, _-_, _^_}
-use mathlib.Core.List.{List, [], _∷_, _++_, map}
-use lib.ListN.{drop, replicate}
-use Rattle.octets.specs.Octets.{bigEndian, numberAt, put}
+use mathlib.Core.List.{List, [], _∷_}
+use lib.ListN.{replicate}
+use Rattle.octets.specs.Octets.{bigEndian, put}
 use Rattle.rules.specs.Sizes.{leastBuffer}
 use Rattle.rules.specs.Tables.{Tables, lent, fresh, live, expiry, setExpiry, termAt, storedTerm}
-use Rattle.rules.specs.Calls.{Call, message, closing, Outcome}
+use Rattle.rules.specs.Calls.{Call, message, closing}
 use Rattle.rules.specs.Step.{step, start}
 use Rattle.rules.specs.Runs.{after}
 use Rattle.examples.specs.Computed.{computed}
@@ -52,13 +52,17 @@ named =
 abbrev lives : ℕ → Tables → ℕ → ℕ → Example
 lives term tables last first = row term (truth (live (tables .leases) last 0) ∷ truth (live (tables .leases) first 0) ∷ []) (1 ∷ 0 ∷ [])
 
+unfoldable pub leasedForTenMinutes : Tables
+unfolding computed random freeWith leasedWith
+leasedForTenMinutes = leasedWith 600
+
 unfoldable pub leasedForADay : Tables
 unfolding computed random freeWith leasedWith
 leasedForADay = leasedWith 86400
 
 unfoldable pub lasting : List Example
-unfolding computed random leased leasedForAnHour leasedForADay
-lasting = lives 600 leased 699 700 ∷ lives 3600 leasedForAnHour 3699 3700 ∷ lives 86400 leasedForADay 86499 86500 ∷ []
+unfolding computed random leasedForTenMinutes leasedForAnHour leasedForADay
+lasting = lives 600 leasedForTenMinutes 699 700 ∷ lives 3600 leasedForAnHour 3699 3700 ∷ lives 86400 leasedForADay 86499 86500 ∷ []
 
 -- the tables with another number where the term is kept
 abbrev keeping : ℕ → Tables → Tables

@@ -5,8 +5,8 @@ use borrow.Author.Needs.{needs}
 use Rattle.fresh_tables.proofs.fresh_allowances.Statement.{statement}
 use Rattle.fresh_tables.proofs.fresh_allowances.Tie as tie
 
-named-requires : tie.Need-named-requires
-named-requires c κs = search needs
+named-term-requires : tie.Need-named-term-requires
+named-term-requires c κs = search needs
 
 slice-aggregate-write64 : tie.Need-slice-aggregate-write64
 slice-aggregate-write64 c = search needs
@@ -38,14 +38,14 @@ same-length c = search needs
 returns : tie.Need-returns
 returns c =
     let s = c .before .before .before .before .before .before .before .before .before .before .before .before .before .before .before .before .before .before .before .before .before in
-    allowances-filled (s .args .allowances .now) _ _ _ _ _ _ (s .args .time) (s .args .term) _ (s .pre) refl (c .before .before .before .before .before .before .before .before .before .before .before .before .before .before .before .before .before .before .before .named .ensures) (c .before .before .before .before .before .before .before .before .before .before .before .before .before .before .before .before .before .write64 .ensures) (c .before .before .before .before .before .before .before .before .before .before .before .before .before .before .write642 .ensures) (c .before .before .before .before .before .before .before .before .before .before .fill-records .ensures)
+    allowances-filled (s .args .allowances .now) _ _ _ _ _ _ (s .args .time) (s .args .term) _ (s .pre) refl (c .before .before .before .before .before .before .before .before .before .before .before .before .before .before .before .before .before .before .before .named-term .ensures) (c .before .before .before .before .before .before .before .before .before .before .before .before .before .before .before .before .before .write64 .ensures) (c .before .before .before .before .before .before .before .before .before .before .before .before .before .before .write642 .ensures) (c .before .before .before .before .before .before .before .before .before .before .fill-records .ensures)
     (c .before .before .before .before .before .before .write643 .ensures) (c .before .before .write644 .ensures)
 
 pub fresh-allowances-spec : {M : Type 1} → statement M
 fresh-allowances-spec =
     tie.close
     (tie.spec
-    named-requires
+    named-term-requires
     slice-aggregate-write64
     write64-requires
     slice-aggregate-write64-2

@@ -1,5 +1,4 @@
 -- `lease_end`: the term behind the time.
-use mathlib.Core.Path.{ap}
 use native.Mathlib.Omega.{arith}
 use Rattle.rules.specs.Leases.{leaseEnd}
 use Rattle.rules.proofs.Terms.{term-most}

@@ -1,8 +1,8 @@
--- `named`: 0 stands for the default.
+-- `named_term`: 0 stands for the default.
 use borrow.Author.Tests.{eq-eqb, ne-eqb}
 use Rattle.rules.specs.Tables.{namedTerm}
-use Rattle.lease_terms.proofs.named.Statement.{statement}
-use Rattle.lease_terms.proofs.named.Tie as tie
+use Rattle.lease_terms.proofs.named_term.Statement.{statement}
+use Rattle.lease_terms.proofs.named_term.Tie as tie
 
 returns : tie.Need-returns
 unfolding namedTerm
@@ -12,5 +12,5 @@ returns-2 : tie.Need-returns-2
 unfolding namedTerm
 returns-2 c = rw (ne-eqb (c .before .args .term) 0 (c .if1 .left))
 
-pub named-spec : {M : Type 1} → statement M
-named-spec = tie.close (tie.spec returns returns-2)
+pub named-term-spec : {M : Type 1} → statement M
+named-term-spec = tie.close (tie.spec returns returns-2)
