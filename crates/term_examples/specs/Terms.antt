@@ -84,20 +84,19 @@ sends c m = message 300 c m others buffer buffer
 abbrev lasts : ℕ → Tables → ℕ → Example
 lasts stored tables seconds = row stored ((expiry (tables .leases) 0 - 300) ∷ storedTerm (tables .allowances) ∷ []) (seconds ∷ stored ∷ [])
 
--- "Ninth level 0, 1, 599, 601, 86,400, 86,401: leases last 3,600, 600, 600, 601, 86,400, 600."
-abbrev each : (ℕ → Tables) → List Example
-each made =
-    let of : ℕ → ℕ → Example = λ stored seconds. lasts stored (made stored) seconds in
-    of 0 3600 ∷ of 1 600 ∷ of 599 600 ∷ of 600 600 ∷ of 601 601 ∷ of 86400 86400 ∷ of 86401 600 ∷ of (2 ^ 64 - 1) 600 ∷ []
-
--- a new lease, one that is extended, and one that is renewed, whose holder is gone
+-- a new lease: "Ninth level 0, 1, 599, 601, 86,400, 86,401: leases last 3,600, 600, 600, 601, 86,400, 600."
 unfoldable pub newOnes : List Example
 unfolding computed random free others
-newOnes = each (λ stored. step (keeping stored free) (sends 0 (2 ∷ 0 ∷ [])) .tables)
+newOnes =
+    let of : ℕ → ℕ → Example = λ stored. lasts stored (step (keeping stored free) (sends 0 (2 ∷ 0 ∷ [])) .tables) in
+    of 0 3600 ∷ of 1 600 ∷ of 599 600 ∷ of 600 600 ∷ of 601 601 ∷ of 86400 86400 ∷ of 86401 600 ∷ of (2 ^ 64 - 1) 600 ∷ []
 
+-- one that is extended, and one that is renewed, whose holder is gone
 unfoldable pub extendedOnes : List Example
 unfolding computed random leased others
-extendedOnes = each (λ stored. step (keeping stored leased) (sends 0 (4 ∷ cookie)) .tables)
+extendedOnes =
+    let of : ℕ → ℕ → Example = λ stored. lasts stored (step (keeping stored leased) (sends 0 (4 ∷ cookie)) .tables) in
+    of 0 3600 ∷ of 601 601 ∷ of 86401 600 ∷ []
 
 unfoldable pub abandoned : Tables
 unfolding computed random leased
@@ -105,7 +104,9 @@ abandoned = after leased (closing 200 0 buffer ∷ [])
 
 unfoldable pub renewedOnes : List Example
 unfolding computed random leased others abandoned
-renewedOnes = each (λ stored. step (keeping stored abandoned) (sends 1 (2 ∷ 1 ∷ cookie)) .tables)
+renewedOnes =
+    let of : ℕ → ℕ → Example = λ stored. lasts stored (step (keeping stored abandoned) (sends 1 (2 ∷ 1 ∷ cookie)) .tables) in
+    of 0 3600 ∷ of 601 601 ∷ of 86401 600 ∷ []
 
 -- "Extension sets reading + term, also where that is earlier than before": a row that would end at 9,000
 unfoldable pub shortened : List Example
