@@ -9,8 +9,9 @@ use codec::Message;
 
 use crate::{Cookie, Error};
 
-/// How long a message that nobody asked for waits for room.
+/// How long a message that nobody asked for waits for room, and how long the rest of one that had room for a part only.
 const ROOM_WAIT: Duration = Duration::from_millis(100);
+const REST_WAIT: Duration = Duration::from_secs(30);
 /// After how long an extension is tried again that couldn't be asked for.
 pub(crate) const NEXT_TRY: Duration = Duration::from_secs(1);
 
@@ -153,9 +154,13 @@ impl Writer {
         self.make_frame(message)?;
         let deadline = Some(Instant::now() + ROOM_WAIT);
         let count = Timed { stream: &self.stream, deadline }.write(&self.frame).map_err(failed)?;
-        let rest = Timed { stream: &self.stream, deadline: None }.write_all(&self.frame[count..]).map_err(failed);
+        let deadline = Some(Instant::now() + REST_WAIT);
+        let rest = Timed { stream: &self.stream, deadline }.write_all(&self.frame[count..]).map_err(failed);
         self.sent = rest.is_ok().then(Instant::now);
-        rest
+        // Others wait for the writer, and nothing that they would write could be read behind a part of a message.
+        rest.inspect_err(|_| {
+            let _ = self.stream.shutdown(Shutdown::Both);
+        })
     }
 }
 

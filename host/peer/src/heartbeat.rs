@@ -3,7 +3,7 @@
 use std::io;
 use std::time::Duration;
 
-use crate::connection::Outgoing;
+use crate::connection::{Outgoing, NEXT_TRY};
 use crate::routine::Routine;
 
 /// After so long without a message a peer says that it is there. A relay asks by a Keepalive every 30 seconds and waits 60
@@ -12,7 +12,8 @@ pub const SILENCE: Duration = Duration::from_secs(40);
 
 /// Sends a Keepalive after each silence. A message that somebody sends meanwhile ends the silence as well.
 pub(crate) fn start(outgoing: &Outgoing, silence: Duration) -> io::Result<Routine> {
-    Routine::start("heartbeat", outgoing, silence, move |writer| writer.beat(silence))
+    // Who has the writer may have found that nothing is due, so it is looked again soon.
+    Routine::start("heartbeat", outgoing, silence.min(NEXT_TRY), move |writer| writer.beat(silence))
 }
 
 #[cfg(test)]

@@ -82,7 +82,7 @@ impl Peer {
     /// Waits until another peer has established a session with this one. From now on a thread of its own extends the lease,
     /// in the session too and whatever the peer is busy with; so this isn't for those who use [`Self::stream`]. If the relay
     /// refuses that before there is a session, it is asked to renew the lease; if it leases another id then, `new_lease` is
-    /// told.
+    /// told. In a session a refusal is passed over: a peer that awaits another session has its next extension refused first.
     pub fn await_session(&mut self, mut new_lease: impl FnMut(&Lease)) -> Result<(), Error> {
         self.extend_leases()?;
         // When it was asked for a lease that it hasn't answered yet.
@@ -128,5 +128,55 @@ impl Peer {
             Message::LeaseRefused => Event::LeaseRefused,
             _ => Event::Other,
         })
+    }
+}
+
+#[cfg(test)]
+mod tests {
+    use std::io::Write;
+    use std::net::{TcpListener, TcpStream};
+    use std::thread;
+    use std::time::{Duration, Instant};
+
+    use codec::Message;
+
+    use super::EXTENSION_WAIT;
+    use crate::connection::Held;
+    use crate::Peer;
+
+    const COOKIE: [u8; 24] = [7; 24];
+
+    /// A peer, and the relay's stream, from which the version's answer has been read.
+    fn connect() -> (Peer, TcpStream, frames::Reader) {
+        let listener = TcpListener::bind("127.0.0.1:0").expect("a port");
+        let address = listener.local_addr().expect("its address");
+        let relay = thread::spawn(move || {
+            let (mut stream, _) = listener.accept().expect("a connection");
+            stream.set_read_timeout(Some(Duration::from_secs(10))).expect("a read limit");
+            let version = codec::encode(&Message::ProtocolVersion { major: 1, minor: 0 }).expect("a message");
+            let mut frame = Vec::new();
+            frames::append(&version, &mut frame).expect("a frame");
+            stream.write_all(&frame).expect("a peer");
+            let mut reader = frames::Reader::default();
+            reader.next(&mut stream).expect("an answer");
+            (stream, reader)
+        });
+        let peer = Peer::connect(address).expect("a peer");
+        let (stream, reader) = relay.join().expect("the relay");
+        (peer, stream, reader)
+    }
+
+    #[test]
+    fn an_extension_that_is_due_comes_soon_after_the_writer_was_busy() {
+        let (mut peer, mut relay, mut reader) = connect();
+        peer.outgoing.hold(Some(Held { cookie: COOKIE, asked: Instant::now() - EXTENSION_WAIT }));
+        let writer = peer.outgoing.writer().upgrade().expect("a writer");
+        let busy = writer.lock().expect("nobody else has it");
+        peer.extend_leases().expect("a thread");
+        // Long enough for it to find the writer busy.
+        thread::sleep(Duration::from_millis(100));
+        drop(busy);
+        let first = reader.next(&mut relay).expect("a frame");
+        assert_eq!(first.and_then(codec::decode), Some(Message::ExtensionRequest { cookie: &COOKIE }));
     }
 }

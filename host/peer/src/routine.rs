@@ -46,3 +46,34 @@ fn run(
         };
     }
 }
+
+#[cfg(test)]
+mod tests {
+    use std::net::{TcpListener, TcpStream};
+    use std::sync::Arc;
+    use std::thread;
+    use std::time::{Duration, Instant};
+
+    use super::Routine;
+    use crate::connection::{split, Writer};
+
+    #[test]
+    fn a_routine_ends_when_it_is_dropped() {
+        let long = Duration::from_secs(300);
+        let listener = TcpListener::bind("127.0.0.1:0").expect("a port");
+        let peer = TcpStream::connect(listener.local_addr().expect("its address")).expect("it listens");
+        let (_, outgoing) = split(peer);
+        let kept = Arc::new(());
+        let by_thread = Arc::clone(&kept);
+        let look = move |_: &mut Writer| {
+            let _ = &by_thread;
+            long
+        };
+        drop(Routine::start("routine", &outgoing, long, look).expect("a thread"));
+        let limit = Instant::now() + Duration::from_secs(10);
+        while Arc::strong_count(&kept) > 1 {
+            assert!(Instant::now() < limit, "it goes on");
+            thread::sleep(Duration::from_millis(1));
+        }
+    }
+}

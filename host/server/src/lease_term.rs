@@ -112,7 +112,9 @@ mod tests {
             assert_eq!(seconds.to_string().parse().map(LeaseTerm::seconds), Ok(seconds));
         }
         // The last two are 600 beyond what 32 and 64 bits hold.
-        for text in ["", "0", "599", "86401", "-600", "600.5", "ten", "600s", "4294967896", "18446744073709552216"] {
+        for text in
+            ["", "0", "599", "86401", "-600", " 600", "600.5", "ten", "600s", "4294967896", "18446744073709552216"]
+        {
             assert_eq!(text.parse::<LeaseTerm>(), Err(NoTerm), "{text}");
         }
         assert_eq!(NoTerm.to_string(), "a lease's term is 600 to 86400 seconds");

@@ -319,6 +319,21 @@ fn the_end_of_a_lease_is_what_the_relay_would_tell() {
 }
 
 #[test]
+fn a_session_has_no_end() {
+    let mut tables = fresh(0);
+    let other = CONNECTION + 1;
+    let (mut reply, mut relayed) = ([0; BUFFER], [0; BUFFER]);
+    relay::open(tables.lend(), CLOCK, other, &mut reply);
+    relay::message(tables.lend(), CLOCK, other, &[1, 1], &[0; RANDOM], &mut reply, &mut relayed);
+    engine_expiration(&mut tables, CLOCK).expect("a lease");
+    // The id of random bytes that are zero.
+    let establish = Call { connection: other, time: CLOCK, action: message(&[6, 0, 0, 0, 0]) };
+    let told = Explanation::new(establish, &tables);
+    assert!(line(&told, "Session:").is_some_and(|words| words.contains("established (status 0)")));
+    assert_eq!(told.expiration, None);
+}
+
+#[test]
 fn the_end_of_a_lease_has_words() {
     let told = Explanation { expiration: Some(CLOCK + 1_200), ..explanation(message(&[2, 0]), decided(LEASE, 0)) };
     assert_text(
@@ -334,6 +349,9 @@ fn the_end_of_a_lease_has_words() {
         ],
     );
     assert_eq!(told.to_json()["expiration"], CLOCK + 1_200);
+    // The seconds are from the call on, whatever the file's clock says.
+    let later = Explanation { clock: CLOCK - 50, ..told };
+    assert!(line(&later, "Until:").is_some_and(|words| words.contains(" 1,200 seconds later")));
 }
 
 #[test]

@@ -61,7 +61,7 @@ fn leases_last_600_seconds_unless_another_term_is_named() {
 #[test]
 fn another_term_is_a_wrong_argument_that_names_the_range() {
     // The last two are 600 beyond what 32 and 64 bits hold.
-    for term in ["0", "599", "86401", "ten", "-600", "600s", "4294967896", "18446744073709552216"] {
+    for term in ["0", "599", "86401", "ten", "-600", " 600", "600s", "4294967896", "18446744073709552216"] {
         let ended = run(&["serve", "--lease-term", term]);
         assert_eq!((ended.status, &*ended.stdout), (Some(2), ""), "{term}");
         let reason = format!("'{term}' for '--lease-term <SECONDS>': a lease's term is 600 to 86400 seconds");

@@ -252,3 +252,37 @@ fn an_extension_is_no_movement() {
     drop(peer);
     relay.join().expect("the relay");
 }
+
+/// Else the old lease could be refused once more after the new one was given, and that given up.
+#[test]
+fn nothing_is_extended_while_a_lease_is_asked_for() {
+    let (address, relay) = scripted(|mut connection| {
+        connection.shake_hands();
+        connection.grant_lease(LATER);
+        refuse_extensions(&mut connection);
+        thread::sleep(5 * SOON);
+        connection.send(Message::LeaseGranted { id: 77, cookie: &[8; 24], expiration: LATER });
+        connection.expect(Message::ExtensionRequest { cookie: &[8; 24] });
+        connection.send(Message::EstablishNotification { session: SESSION });
+        connection.drain();
+    });
+    impatient_holder(address).await_session(|_| ()).expect("a session");
+    relay.join().expect("the relay");
+}
+
+#[test]
+fn the_lease_that_replaces_one_is_renewed_by_its_own_cookie() {
+    let mut ids = Vec::new();
+    let script = |connection: &mut Connection| {
+        refuse_extension(connection);
+        for _ in 0..2 {
+            connection.send(Message::LeaseGranted { id: 77, cookie: &[8; 24], expiration: LATER });
+            connection.send(Message::ExtensionRefused);
+            connection.expect(Message::LeaseRequestWithCookie { cookie: &[8; 24] });
+        }
+        connection.send(Message::LeaseGranted { id: 77, cookie: &[8; 24], expiration: LATER });
+        connection.send(Message::EstablishNotification { session: SESSION });
+    };
+    await_session_at(script, |lease| ids.push(lease.id)).expect("a session");
+    assert_eq!(ids, [77]);
+}
