@@ -31,12 +31,12 @@ Holds table = map (λ (e : Example). e .given) table ≡ map (λ (e : Example). 
 abbrev pub numbers : List Example → List ℕ
 numbers table = map (λ (e : Example). e .number) table
 
-abbrev row : ℕ → List ℕ → List ℕ → Example
+abbrev pub row : ℕ → List ℕ → List ℕ → Example
 row number given said = record { number = number; given = given; said = said }
 
 -- ---- calls and tables that the examples use
 
-abbrev buffer : List ℕ
+abbrev pub buffer : List ℕ
 buffer = replicate leastBuffer 0
 
 -- random bytes whose first candidate is 0x04000001
@@ -45,14 +45,14 @@ unfolding computed
 random = replicate 24 9 ++ (bigEndian 4 0x04000001 ++ replicate 52 3)
 
 -- connection c sends m
-abbrev sends : ℕ → ℕ → List ℕ → Call
+abbrev pub sends : ℕ → ℕ → List ℕ → Call
 sends now c m = message now c m random buffer buffer
 
 -- the same, with a relay buffer of the length of m
 abbrev sendsLong : ℕ → ℕ → List ℕ → Call
 sendsLong now c m = message now c m random buffer m
 
-abbrev longest : List ℕ
+abbrev pub longest : List ℕ
 longest = 11 ∷ replicate (longestMessage - 1) 0
 
 -- a relay with a term: connections 0 and 1 open and free; then a lease of connection 0 at 100

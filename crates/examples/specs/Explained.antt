@@ -12,7 +12,7 @@ use Rattle.rules.specs.Reasons.{asked, decided, headroom, explain}
 use Rattle.reasons.specs.declared.Reason.{Reason}
 use Rattle.reasons.specs.Coded.{coded}
 use Rattle.examples.specs.Computed.{computed}
-use Rattle.examples.specs.Examples.{random, free, leased, joined, withLevel}
+use Rattle.examples.specs.Examples.{buffer, random, free, leased, joined, withLevel}
 
 pub record Row : Type 0 where
   pub given : Reason
@@ -27,9 +27,6 @@ row tables call check request condition charged headroom = record {
   given = coded (explain tables call);
   said = record { check = check; request = request; condition = condition; charged = charged; headroom = headroom };
 }
-
-abbrev buffer : List ℕ
-buffer = replicate 64 0
 
 -- connection c sends m, with such a cookie among its random bytes, and every candidate is id 1
 unfoldable pub candidates : List ℕ

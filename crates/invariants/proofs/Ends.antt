@@ -2,12 +2,11 @@
 use Prim.Native.Nat.{ℕ, _+_, _^_, _≤_, _<_}
 use mathlib.Core.Path.{_≡_, refl, ap, _∙_}
 use mathlib.Core.Logic.{_≢_}
-use mathlib.Core.List.{List, [], _∷_}
+use mathlib.Core.List.{List}
 use native.Mathlib.Omega.{arith}
 use native.Mathlib.Decide.{ℕ-discrete}
 use lib.ListN.{length}
 use Rattle.svsc.specs.Messages.{cookieBytes}
-use Rattle.allowance.specs.Meter as meter
 use Rattle.rules.specs.Sizes.{rowCount, rowsPerPartner, connectionCount, leasesSize, timeLimit}
 use Rattle.rules.specs.Searches.{firstRow}
 use Rattle.rules.specs.Tables.{Tables, partnerOf, expiry, leaseTerm, fresh}
@@ -19,7 +18,8 @@ use Rattle.rules.specs.Runs.{after}
 use Rattle.invariants.specs.Invariants.{EndsWithin}
 use Rattle.rules.proofs.Records.{length-part-most}
 use Rattle.rules.proofs.Checks.{passed}
-use Rattle.rules.proofs.Answers.{refused-leaves-all, done-passed}
+use Rattle.rules.proofs.Answers.{done-passed}
+use Rattle.rules.proofs.Runs.{run-keeps}
 use Rattle.rules.proofs.Decisions.{is-renewed, is-granted, is-extended}
 use Rattle.rules.proofs.Rows.{kept-expiry, kept-grant, kept-renew, expiry-set, expiry-granted, renewed-row}
 use Rattle.rules.proofs.Metered.{clock-takes-time}
@@ -78,22 +78,16 @@ module _
 abbrev pub InTerm : Tables → Type 0
 InTerm tables = EndsWithin (leaseTerm (tables .allowances)) tables
 
-step-ends : (tables : Tables) (call : Call) → InTerm tables → InTerm (step tables call .tables)
-step-ends tables call d = go (ℕ-discrete (step tables call .answer .number) 0)
-  where
-    go : Dec (step tables call .answer .number ≡ 0) → InTerm (step tables call .tables)
-    go (yes e) =
-        let ok = passed tables call (done-passed tables call e) in
-        let later : (r : ℕ) → r < rowCount → expiry (tables .leases) r ≤ timeOf call + leaseTerm (tables .allowances) =
-        λ r r<. omega (arith, d r r<, ok .in-order) in
-        rw (clock-takes-time tables call e, term-kept tables call)
-        (every-writing _ tables call e (each-ends tables (timeOf call) (connectionOf call) (ok .leases) (ok .known) (ok .in-limit) later))
-    go (no n) = rw (refused-leaves-all tables call n) d
+done-ends : (tables : Tables) (call : Call) → step tables call .answer .number ≡ 0 → InTerm tables → InTerm (step tables call .tables)
+done-ends tables call e d =
+    let ok = passed tables call (done-passed tables call e) in
+    let later : (r : ℕ) → r < rowCount → expiry (tables .leases) r ≤ timeOf call + leaseTerm (tables .allowances) =
+    λ r r<. omega (arith, d r r<, ok .in-order) in
+    rw (clock-takes-time tables call e, term-kept tables call)
+    (every-writing _ tables call e (each-ends tables (timeOf call) (connectionOf call) (ok .leases) (ok .known) (ok .in-limit) later))
 
 pub run-ends : (calls : List Call) (tables : Tables) → InTerm tables → InTerm (after tables calls)
-unfolding meter.after
-run-ends [] tables d = d
-run-ends (call ∷ calls) tables d = run-ends calls (step tables call .tables) (step-ends tables call d)
+run-ends = run-keeps InTerm done-ends
 
 -- in fresh tables no row has been leased
 pub fresh-ends : (now term : ℕ) → InTerm (fresh now term)

@@ -1,12 +1,10 @@
 -- Live ids stay distinct, call by call. Assumes nothing.
 use Prim.Native.Nat.{ℕ, _<_}
 use mathlib.Core.Path.{_≡_}
-use mathlib.Core.List.{List, [], _∷_}
+use mathlib.Core.List.{List}
 use native.Mathlib.Omega.{arith}
-use native.Mathlib.Decide.{ℕ-discrete}
 use lib.ListN.{length}
 use Rattle.svsc.specs.Messages.{cookieBytes}
-use Rattle.allowance.specs.Meter as meter
 use Rattle.rules.specs.Sizes.{connectionCount, leasesSize}
 use Rattle.rules.specs.Tables.{Tables, idOf, clock}
 use Rattle.rules.specs.Leases.{leaseEnd}
@@ -16,7 +14,8 @@ use Rattle.rules.specs.Runs.{after}
 use Rattle.invariants.specs.Invariants.{DistinctIds}
 use Rattle.rules.proofs.Records.{length-part-most}
 use Rattle.rules.proofs.Checks.{passed}
-use Rattle.rules.proofs.Answers.{refused-leaves-all, done-passed}
+use Rattle.rules.proofs.Answers.{done-passed}
+use Rattle.rules.proofs.Runs.{run-keeps}
 use Rattle.rules.proofs.Decisions.{is-renewed, is-granted, is-extended}
 use Rattle.rules.proofs.Leases.{no-id, renewable-exactly}
 use Rattle.rules.proofs.Metered.{clock-takes-time}
@@ -47,18 +46,12 @@ module _
 abbrev pub AtClock : Tables → Type 0
 AtClock tables = DistinctIds (tables .leases) (clock (tables .allowances))
 
-step-distinct : (tables : Tables) (call : Call) → AtClock tables → AtClock (step tables call .tables)
-step-distinct tables call d = go (ℕ-discrete (step tables call .answer .number) 0)
-  where
-    go : Dec (step tables call .answer .number ≡ 0) → AtClock (step tables call .tables)
-    go (yes e) =
-        let ok = passed tables call (done-passed tables call e) in
-        let later = distinct-later (tables .leases) (clock (tables .allowances)) (timeOf call) (ok .in-order) d in
-        rw (clock-takes-time tables call e)
-        (every-writing (λ ms. DistinctIds ms (timeOf call)) tables call e (each-distinct tables (timeOf call) (connectionOf call) (ok .leases) (ok .known) later))
-    go (no n) = rw (refused-leaves-all tables call n) d
+done-distinct : (tables : Tables) (call : Call) → step tables call .answer .number ≡ 0 → AtClock tables → AtClock (step tables call .tables)
+done-distinct tables call e d =
+    let ok = passed tables call (done-passed tables call e) in
+    let later = distinct-later (tables .leases) (clock (tables .allowances)) (timeOf call) (ok .in-order) d in
+    rw (clock-takes-time tables call e)
+    (every-writing (λ ms. DistinctIds ms (timeOf call)) tables call e (each-distinct tables (timeOf call) (connectionOf call) (ok .leases) (ok .known) later))
 
 pub run-distinct : (calls : List Call) (tables : Tables) → AtClock tables → AtClock (after tables calls)
-unfolding meter.after
-run-distinct [] tables d = d
-run-distinct (call ∷ calls) tables d = run-distinct calls (step tables call .tables) (step-distinct tables call d)
+run-distinct = run-keeps AtClock done-distinct

@@ -14,7 +14,6 @@ use Rattle.octets.specs.Octets.{byteAt, bigEndian, put}
 use Rattle.octets.proofs.Parts.{byte-past}
 use Rattle.octets.proofs.Numbers.{length-bigEndian}
 use Rattle.svsc.specs.Messages.{cookieBytes}
-use Rattle.allowance.specs.Meter as meter
 use Rattle.rules.specs.Sizes.{rowsPerPartner, connectionCount, rowCount, connectionBytes, leaseBytes, timeBytes, nobody}
 use Rattle.rules.specs.Searches.{firstRow, endRow}
 use Rattle.rules.specs.Tables.{Tables, partnerOf, connectionAt, peerAt, keysAt, keysBytes, awaiting, opened, peer, hasSession, setState, setPeer, setUnanswered, leaseAt, idAt, holderAt, cookieAt, setExpiry, setId, setHolder, freshConnection, fresh}
@@ -31,7 +30,8 @@ use Rattle.rules.proofs.Records.{length-part-most}
 use Rattle.rules.proofs.Connections.{keys-most}
 use Rattle.rules.proofs.Rows.{by-holder}
 use Rattle.rules.proofs.Fresh.{zeros, fresh-connection, fresh-row, fresh-sizes}
-use Rattle.rules.proofs.Answers.{refused-leaves-all, is-done, done-passed}
+use Rattle.rules.proofs.Answers.{is-done, done-passed}
+use Rattle.rules.proofs.Runs.{run-keeps}
 use Rattle.rules.proofs.Decisions.{is-granted}
 use Rattle.rules.proofs.Plans.{Each, kindOf, every-plan, by-lease, by-test}
 use Rattle.rules.proofs.Marks.{by-caller}
@@ -236,9 +236,15 @@ module _ (tables : Tables) (now c : ℕ) (zs : SpareZero tables) where
 
 -- ---- calls, and runs
 
-pub spare-stays : (tables : Tables) (call : Call) → SpareZero tables → SpareZero (step tables call .tables)
+done-spare : (tables : Tables) (call : Call) → step tables call .answer .number ≡ 0 → SpareZero tables → SpareZero (step tables call .tables)
 unfolding done plan
-spare-stays tables call zs = go (ℕ-discrete (step tables call .answer .number) 0)
+done-spare tables call e zs =
+    let x = every-plan _ tables call (done-passed tables call e) (each-zero tables (timeOf call) (connectionOf call) zs (received call) (kindOf call)) in
+    rw (is-done tables call e)
+    (record {
+      connections = λ i z. stamp-zero i z _ _ _ _ (stamp-zero i z _ _ _ _ (heard i z x));
+      leases = x .leases;
+    })
   where
     heard : (i : ℕ) → IsSpare (i % connectionBytes) → Zero tables (timeOf call) (connectionOf call) zs (planCall tables call)
         → byteAt (answeredBy call (planCall tables call .connections)) i ≡ 0
@@ -246,20 +252,8 @@ spare-stays tables call zs = go (ℕ-discrete (step tables call .answer .number)
         by-caller (λ (l : List ℕ). byteAt l i ≡ 0) call (planCall tables call .connections) (x .connections i z)
         (answered-zero i z _ _ (x .connections i z))
 
-    go : Dec (step tables call .answer .number ≡ 0) → SpareZero (step tables call .tables)
-    go (yes e) =
-        let x = every-plan _ tables call (done-passed tables call e) (each-zero tables (timeOf call) (connectionOf call) zs (received call) (kindOf call)) in
-        rw (is-done tables call e)
-        (record {
-          connections = λ i z. stamp-zero i z _ _ _ _ (stamp-zero i z _ _ _ _ (heard i z x));
-          leases = x .leases;
-        })
-    go (no n) = rw (refused-leaves-all tables call n) zs
-
 pub run-spare : (calls : List Call) (tables : Tables) → SpareZero tables → SpareZero (after tables calls)
-unfolding meter.after
-run-spare [] tables zs = zs
-run-spare (call ∷ calls) tables zs = run-spare calls (step tables call .tables) (spare-stays tables call zs)
+run-spare = run-keeps SpareZero done-spare
 
 -- ---- fresh tables
 

@@ -2,13 +2,12 @@
 use Prim.Native.Nat.{ℕ, _+_, _%_, _≤_, _<_}
 use mathlib.Core.Path.{_≡_, refl, sym, ap, _∙_}
 use mathlib.Core.Logic.{_⊎_, inl, inr, ⊎-elim}
-use mathlib.Core.List.{List, [], _∷_}
+use mathlib.Core.List.{List}
 use native.Mathlib.Omega.{arith}
 use native.Mathlib.Decide.{ℕ-discrete}
 use lib.Dec.{eqb, ltb, lit≤}
 use lib.ListN.{length, replicate}
 use Rattle.octets.specs.Octets.{byteAt, number, numberFrom, part, numberAt}
-use Rattle.allowance.specs.Meter as meter
 use Rattle.rules.specs.Sizes.{connectionCount, connectionBytes, connectionsSize, timeBytes, timeLimit}
 use Rattle.rules.specs.Searches.{endRow}
 use Rattle.rules.specs.Tables.{Tables, partnerOf, connectionAt, unansweredAt, lastSentAt, keepaliveAt, awaiting, opened, peer, hasSession, setState, lastSent, keepaliveSent, clock, freshConnection, fresh}
@@ -29,7 +28,8 @@ use Rattle.rules.proofs.Connections.{cleared-record, fresh-record, keys-most}
 use Rattle.rules.proofs.Changes.{changed-both, changed-state, changed-clear, changed-join, changed-end}
 use Rattle.rules.proofs.Fresh.{fresh-whole, fresh-connection, fresh-sizes}
 use Rattle.rules.proofs.Checks.{passed}
-use Rattle.rules.proofs.Answers.{refused-leaves-all, is-done, done-passed}
+use Rattle.rules.proofs.Answers.{is-done, done-passed}
+use Rattle.rules.proofs.Runs.{run-keeps}
 use Rattle.rules.proofs.Metered.{clock-takes-time}
 use Rattle.rules.proofs.Plans.{Each, kindOf, every-plan, by-lease, by-test}
 use Rattle.rules.proofs.Marks.{by-caller, changed-answered, changed-ask, changed-stamp, answered-exactly, asked-unanswered, asked-at, stamp-none, stamp-exactly, length-stamp, length-answered}
@@ -219,28 +219,18 @@ module _ (tables : Tables) (now c : ℕ) (c< : c < connectionCount) (now< : now 
 abbrev AtClock : Tables → Type 0
 AtClock tables = Timely (clock (tables .allowances)) (tables .connections)
 
-step-timely : (tables : Tables) (call : Call) → AtClock tables → AtClock (step tables call .tables)
+done-timely : (tables : Tables) (call : Call) → step tables call .answer .number ≡ 0 → AtClock tables → AtClock (step tables call .tables)
 unfolding done plan
-step-timely tables call t = go (ℕ-discrete (step tables call .answer .number) 0)
-  where
-    go : Dec (step tables call .answer .number ≡ 0) → AtClock (step tables call .tables)
-    go (yes e) =
-        let h = done-passed tables call e in
-        let ok = passed tables call h in
-        let now = timeOf call in
-        let c = connectionOf call in
-        let each = each-timely tables now c (ok .known) (ok .in-limit) (later (ok .in-order) t) (received call) (kindOf call) in
-        let x = every-plan (λ (p : Plan). Timely now (p .connections)) tables call h each in
-        let heard =
-        by-caller (Timely now) call (planCall tables call .connections) x (answered-timely now _ c (ok .known) x) in
-        rw (clock-takes-time tables call e, is-done tables call e)
-        (stamp-timely now _ _ _ (ok .in-limit) (stamp-timely now _ _ _ (ok .in-limit) heard))
-    go (no n) = rw (refused-leaves-all tables call n) t
-
-run-timely : (calls : List Call) (tables : Tables) → AtClock tables → AtClock (after tables calls)
-unfolding meter.after
-run-timely [] tables t = t
-run-timely (call ∷ calls) tables t = run-timely calls (step tables call .tables) (step-timely tables call t)
+done-timely tables call e t =
+    let h = done-passed tables call e in
+    let ok = passed tables call h in
+    let now = timeOf call in
+    let c = connectionOf call in
+    let each = each-timely tables now c (ok .known) (ok .in-limit) (later (ok .in-order) t) (received call) (kindOf call) in
+    let x = every-plan (λ (p : Plan). Timely now (p .connections)) tables call h each in
+    let heard = by-caller (Timely now) call (planCall tables call .connections) x (answered-timely now _ c (ok .known) x) in
+    rw (clock-takes-time tables call e, is-done tables call e)
+    (stamp-timely now _ _ _ (ok .in-limit) (stamp-timely now _ _ _ (ok .in-limit) heard))
 
 -- in fresh tables all of these are zero
 fresh-timely : (now term then : ℕ) → Timely then (fresh now term .connections)
@@ -254,5 +244,5 @@ fresh-timely now term then = record {
 
 pub run-in-time : (calls : List Call) (now term : ℕ) → InTime (after (fresh now term) calls)
 run-in-time calls now term =
-    let t = run-timely calls (fresh now term) (fresh-timely now term _) in
+    let t = run-keeps AtClock done-timely calls (fresh now term) (fresh-timely now term _) in
     record { unanswered = t .unanswered; last-sent = t .last-sent; keepalive-sent = t .keepalive-sent }

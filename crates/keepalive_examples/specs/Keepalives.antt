@@ -5,11 +5,12 @@ use mathlib.Core.Path.{_≡_}
 use mathlib.Core.List.{List, [], _∷_, _++_, map}
 use lib.ListN.{take, replicate}
 use Rattle.octets.specs.Octets.{if_then_else_, bigEndian, part, put}
-use Rattle.rules.specs.Tables.{Tables, connectionAt, opened, setState, setUnanswered, fresh}
-use Rattle.rules.specs.Calls.{Call, opening, message, closing, keepalive, Outcome}
+use Rattle.rules.specs.Tables.{Tables, connectionAt, opened, setState, fresh}
+use Rattle.rules.specs.Calls.{Call, opening, message, keepalive, Outcome}
 use Rattle.rules.specs.Step.{step}
 use Rattle.rules.specs.Runs.{after}
 use Rattle.examples.specs.Computed.{computed}
+use Rattle.examples.specs.Examples.{buffer}
 
 pub record Row : Type 0 where
   pub given : List ℕ
@@ -53,9 +54,6 @@ abbrev marked : ℕ → ℕ → ℕ → List ℕ
 marked unanswered sent keepaliveSent = unanswered ∷ 0 ∷ bigEndian 5 sent ++ (bigEndian 5 keepaliveSent ++ (0 ∷ 0 ∷ []))
 
 -- ---- calls and tables
-
-abbrev buffer : List ℕ
-buffer = replicate 64 0
 
 unfoldable pub random : List ℕ
 unfolding computed

@@ -1,9 +1,8 @@
 -- What each kind of call costs (02, Item 5), worked out by hand: a row has what the definitions give and what must come of it.
-use Prim.Native.Nat.{ℕ, _-_}
+use Prim.Native.Nat.{ℕ}
 use mathlib.Core.List.{List, [], _∷_, _++_}
 use lib.ListN.{replicate}
 use Rattle.octets.specs.Octets.{bigEndian}
-use Rattle.svsc.specs.Messages.{longestMessage}
 use Rattle.allowance.specs.Bucket.{levelNow}
 use Rattle.rules.specs.Sizes.{connectionsPerPartner}
 use Rattle.rules.specs.Tables.{Tables, records, fresh, bucketOf}
@@ -12,21 +11,11 @@ use Rattle.rules.specs.Charges.{cost, price}
 use Rattle.rules.specs.Step.{step}
 use Rattle.rules.specs.Runs.{after}
 use Rattle.examples.specs.Computed.{computed}
-use Rattle.examples.specs.Examples.{Example, random, free, leased, joined, withLevel}
+use Rattle.examples.specs.Examples.{Example, buffer, sends, longest, random, free, leased, joined, withLevel}
 
 -- the number is the request's
 abbrev row : List ℕ → List ℕ → Example
 row given said = record { number = 5; given = given; said = said }
-
-abbrev buffer : List ℕ
-buffer = replicate 64 0
-
--- connection c sends m
-abbrev sends : ℕ → ℕ → List ℕ → Call
-sends now c m = message now c m random buffer buffer
-
-abbrev longest : List ℕ
-longest = 11 ∷ replicate (longestMessage - 1) 0
 
 -- the answer, the price, and the cost of a call as history has it
 abbrev told : Tables → Call → Outcome → List ℕ

@@ -12,7 +12,7 @@ use Rattle.rules.specs.Calls.{Call, message, closing, Outcome}
 use Rattle.rules.specs.Step.{step}
 use Rattle.rules.specs.Runs.{after}
 use Rattle.examples.specs.Computed.{computed}
-use Rattle.examples.specs.Examples.{random, freeWith}
+use Rattle.examples.specs.Examples.{buffer, random, freeWith}
 
 pub record Renewal : Type 0 where
   pub given : List ℕ
@@ -26,9 +26,6 @@ abbrev row : List ℕ → List ℕ → Renewal
 row given said = record { given = given; said = said }
 
 -- ---- a power cut: "Leased at 100 as id 7 with cookie K, closed at 200; connection 1 asks with K at 9,000"
-
-abbrev buffer : List ℕ
-buffer = replicate 64 0
 
 -- K, and random bytes that give it and id 7; and others, whose first candidate is id 5
 abbrev kept : List ℕ

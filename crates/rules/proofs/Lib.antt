@@ -15,6 +15,7 @@ pub mod Messages
 pub mod Checks
 pub mod Charges
 pub mod Answers
+pub mod Runs
 pub mod Decisions
 pub mod Leases
 pub mod Plans

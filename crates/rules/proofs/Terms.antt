@@ -2,19 +2,19 @@
 use Prim.Native.Nat.{ℕ, _≤_}
 use mathlib.Core.Path.{_≡_, refl, _∙_}
 use mathlib.Core.Logic.{⊎-elim}
-use mathlib.Core.List.{List, [], _∷_}
+use mathlib.Core.List.{List}
 use native.Mathlib.Omega.{arith}
 use lib.Dec.{eqb, leb, lit≤}
 use borrow.Author.Tests.{leb-true, le-leb, lt-leb, eq-eqb, ne-eqb}
 use Rattle.octets.specs.Octets.{if_then_else_}
 use Rattle.octets.proofs.Tests.{both-right}
-use Rattle.allowance.specs.Meter as meter
 use Rattle.rules.specs.Tables.{Tables, storedTerm, termInRange, leaseTerm}
 use Rattle.rules.specs.Layout.{TermRead}
 use Rattle.rules.specs.Calls.{Call}
 use Rattle.rules.specs.Refusals.{MayBeNamed}
 use Rattle.rules.specs.Step.{step, start}
 use Rattle.rules.specs.Runs.{after}
+use Rattle.rules.proofs.Runs.{run-keeps}
 use Rattle.rules.proofs.Plans.{by-test}
 use Rattle.rules.proofs.Fresh.{fresh-ninth}
 use Rattle.rules.proofs.Demand3.{started-fresh, started-in-limit}
@@ -50,9 +50,8 @@ term-kept tables call = rw (term-not-written tables call)
 
 -- So at every later moment the tables keep what they kept,
 pub stored-term-stays : (calls : List Call) (tables : Tables) → storedTerm (after tables calls .allowances) ≡ storedTerm (tables .allowances)
-unfolding meter.after storedTerm
-stored-term-stays [] tables = refl
-stored-term-stays (call ∷ calls) tables = stored-term-stays calls (step tables call .tables) ∙ term-not-written tables call
+stored-term-stays calls tables =
+    run-keeps (λ t. storedTerm (t .allowances) ≡ storedTerm (tables .allowances)) (λ t call e s. term-not-written t call ∙ s) calls tables refl
 
 -- and leases last as long as before.
 pub term-stays : (calls : List Call) (tables : Tables) → leaseTerm (after tables calls .allowances) ≡ leaseTerm (tables .allowances)

@@ -12,7 +12,7 @@ use Rattle.svsc.specs.Messages.{cookieBytes}
 use Rattle.rules.specs.Sizes.{rowsPerPartner, connectionBytes, leaseBytes, nobody}
 use Rattle.rules.specs.Searches.{firstRow, endRow}
 use Rattle.rules.specs.Tables.{Tables, partnerOf, ownerOf, opened, peer, hasSession}
-use Rattle.rules.specs.Leases.{decideLease, leaseEnd, rowToExtend, release}
+use Rattle.rules.specs.Leases.{decideLease, rowToExtend, release}
 use Rattle.rules.specs.Sessions.{EstablishDecision, refusedWith, establishedWith, decideEstablish, establish}
 use Rattle.rules.specs.Plans.{Plan, doNothing, planOpen, planVersionAnswer, planLease, planExtension, planEstablish, planEnd, planData, planClose, planCall, answeredBy, plan}
 use Rattle.rules.specs.Calls.{Call, timeOf, connectionOf}

@@ -4,19 +4,12 @@ use Prim.Native.Nat.{ℕ, _+_, _-_, _^_}
 use mathlib.Core.List.{List, [], _∷_}
 use lib.ListN.{replicate}
 use Rattle.octets.specs.Octets.{bigEndian, put}
-use Rattle.rules.specs.Sizes.{leastBuffer}
 use Rattle.rules.specs.Tables.{Tables, lent, fresh, live, expiry, setExpiry, termAt, storedTerm}
 use Rattle.rules.specs.Calls.{Call, message, closing}
 use Rattle.rules.specs.Step.{step, start}
 use Rattle.rules.specs.Runs.{after}
 use Rattle.examples.specs.Computed.{computed}
-use Rattle.examples.specs.Examples.{Example, truth, random, freeWith, leasedWith, free, leased, leasedForAnHour}
-
-abbrev row : ℕ → List ℕ → List ℕ → Example
-row number given said = record { number = number; given = given; said = said }
-
-abbrev buffer : List ℕ
-buffer = replicate leastBuffer 0
+use Rattle.examples.specs.Examples.{Example, row, buffer, truth, random, freeWith, leasedWith, free, leased, leasedForAnHour}
 
 -- ---- fresh starts
 
@@ -76,9 +69,9 @@ unfoldable pub others : List ℕ
 unfolding computed random
 others = put random 0 (replicate 24 8)
 
--- connection c sends m at 300
-abbrev sends : ℕ → List ℕ → Call
-sends c m = message 300 c m others buffer buffer
+-- connection c asks by m at 300
+abbrev asks : ℕ → List ℕ → Call
+asks c m = message 300 c m others buffer buffer
 
 -- how long row 0 lasts from 300 on, and what the tables keep then
 abbrev lasts : ℕ → Tables → ℕ → Example
@@ -88,14 +81,14 @@ lasts stored tables seconds = row stored ((expiry (tables .leases) 0 - 300) ∷ 
 unfoldable pub newOnes : List Example
 unfolding computed random free others
 newOnes =
-    let of : ℕ → ℕ → Example = λ stored. lasts stored (step (keeping stored free) (sends 0 (2 ∷ 0 ∷ [])) .tables) in
+    let of : ℕ → ℕ → Example = λ stored. lasts stored (step (keeping stored free) (asks 0 (2 ∷ 0 ∷ [])) .tables) in
     of 0 3600 ∷ of 1 600 ∷ of 599 600 ∷ of 600 600 ∷ of 601 601 ∷ of 86400 86400 ∷ of 86401 600 ∷ of (2 ^ 64 - 1) 600 ∷ []
 
 -- one that is extended, and one that is renewed, whose holder is gone
 unfoldable pub extendedOnes : List Example
 unfolding computed random leased others
 extendedOnes =
-    let of : ℕ → ℕ → Example = λ stored. lasts stored (step (keeping stored leased) (sends 0 (4 ∷ cookie)) .tables) in
+    let of : ℕ → ℕ → Example = λ stored. lasts stored (step (keeping stored leased) (asks 0 (4 ∷ cookie)) .tables) in
     of 0 3600 ∷ of 601 601 ∷ of 86401 600 ∷ []
 
 unfoldable pub abandoned : Tables
@@ -105,7 +98,7 @@ abandoned = after leased (closing 200 0 buffer ∷ [])
 unfoldable pub renewedOnes : List Example
 unfolding computed random leased others abandoned
 renewedOnes =
-    let of : ℕ → ℕ → Example = λ stored. lasts stored (step (keeping stored abandoned) (sends 1 (2 ∷ 1 ∷ cookie)) .tables) in
+    let of : ℕ → ℕ → Example = λ stored. lasts stored (step (keeping stored abandoned) (asks 1 (2 ∷ 1 ∷ cookie)) .tables) in
     of 0 3600 ∷ of 601 601 ∷ of 86401 600 ∷ []
 
 -- "Extension sets reading + term, also where that is earlier than before": a row that would end at 9,000
@@ -113,4 +106,4 @@ unfoldable pub shortened : List Example
 unfolding computed random leased others
 shortened =
     let late = lent (leased .connections) (setExpiry (leased .leases) 0 9000) (leased .allowances) in
-    row 600 (expiry (step late (sends 0 (4 ∷ cookie)) .tables .leases) 0 ∷ []) (900 ∷ []) ∷ []
+    row 600 (expiry (step late (asks 0 (4 ∷ cookie)) .tables .leases) 0 ∷ []) (900 ∷ []) ∷ []
