@@ -3,6 +3,12 @@
  * Link libcrondelith.a, which host/build-archives builds; of a C library it needs memcpy and memmove. Each function is total: any bytes,
  * any numbers and any lengths get an answer. The three tables are 4,096, 5,120 and 144 bytes; who calls keeps them between calls and
  * writes nothing to them. Buffers must not overlap. A slice is a pointer and a length; an empty one may have any pointer.
+ *
+ * Beside the tables goes a map of the connections, a number of 64 bits that each call is handed and gives back: bit c, from the lowest, is 1
+ * while connection c isn't closed. A done open sets the caller's bit; what ends the caller's connection, a close, a version answer of 0 or a
+ * timeout, clears it; all other bits stay, and so do all of them in a refused call. A fresh relay's map is 0. So who hands each call the map
+ * that the one before gave back, along with its tables, always has a map that agrees with the connection table. What a call answers, sends
+ * and writes doesn't depend on it, and with one that doesn't agree just that bit is set or cleared.
  */
 #ifndef CRONDELITH_H
 #define CRONDELITH_H
@@ -40,6 +46,7 @@ typedef struct {
     uint32_t relay;       /* bytes at the start of the relay buffer, for the destination */
     uint32_t destination; /* a connection, or CRONDELITH_NOBODY */
     uint32_t disconnect;  /* 1: the host has to disconnect the caller */
+    uint64_t map;         /* the map of the connections afterwards; that of before, if the call is refused */
 } crondelith_answer;
 
 /* Leases are given, renewed and extended for `term` seconds from the time of the call, 600 to 86,400; 0 means 600. The tables keep the term, in
@@ -47,22 +54,22 @@ typedef struct {
  * and leases of 3,600 seconds; any other number out of that range counts as 600.
  */
 crondelith_answer crondelith_fresh(uint8_t *connections, size_t connections_length, uint8_t *leases, size_t leases_length,
-                                   uint8_t *allowances, size_t allowances_length, uint64_t now, uint64_t term);
+                                   uint8_t *allowances, size_t allowances_length, uint64_t map, uint64_t now, uint64_t term);
 
 crondelith_answer crondelith_open(uint8_t *connections, size_t connections_length, uint8_t *leases, size_t leases_length,
-                                  uint8_t *allowances, size_t allowances_length, uint64_t now, uint64_t connection, uint8_t *reply,
+                                  uint8_t *allowances, size_t allowances_length, uint64_t map, uint64_t now, uint64_t connection, uint8_t *reply,
                                   size_t reply_length);
 
 /* Any message and any relay buffer that is long enough serve. A long send is fastest where the second byte of both, at which its data
  * begins, is at a multiple of 64, a line of the cache: elsewhere it takes up to 1.5 times as long. How far apart they lie doesn't count.
  */
 crondelith_answer crondelith_message(uint8_t *connections, size_t connections_length, uint8_t *leases, size_t leases_length,
-                                     uint8_t *allowances, size_t allowances_length, uint64_t now, uint64_t connection,
+                                     uint8_t *allowances, size_t allowances_length, uint64_t map, uint64_t now, uint64_t connection,
                                      const uint8_t *message, size_t message_length, const uint8_t *random, size_t random_length,
                                      uint8_t *reply, size_t reply_length, uint8_t *relay, size_t relay_length);
 
 crondelith_answer crondelith_close(uint8_t *connections, size_t connections_length, uint8_t *leases, size_t leases_length,
-                                   uint8_t *allowances, size_t allowances_length, uint64_t now, uint64_t connection, uint8_t *relay,
+                                   uint8_t *allowances, size_t allowances_length, uint64_t map, uint64_t now, uint64_t connection, uint8_t *relay,
                                    size_t relay_length);
 
 /* To be called for each connection, once a second or so: finds out whether its peer still answers. Costs nothing.
@@ -72,8 +79,27 @@ crondelith_answer crondelith_close(uint8_t *connections, size_t connections_leng
  * Else nothing is sent, and of the tables only the clock changes.
  */
 crondelith_answer crondelith_keepalive(uint8_t *connections, size_t connections_length, uint8_t *leases, size_t leases_length,
-                                       uint8_t *allowances, size_t allowances_length, uint64_t now, uint64_t connection,
+                                       uint8_t *allowances, size_t allowances_length, uint64_t map, uint64_t now, uint64_t connection,
                                        uint8_t *reply, size_t reply_length, uint8_t *relay, size_t relay_length);
+
+/* Which number has a new connection? From the map alone: how many connections the partner has, and the lowest of its numbers whose bit is 0,
+ * or CRONDELITH_NOBODY exactly if it has none. number: 0, or 3 if there is no such partner (8 or more): then 0 and CRONDELITH_NOBODY.
+ */
+typedef struct {
+    uint32_t number;
+    uint32_t connections;
+    uint32_t lowest;
+} crondelith_partner_connections;
+
+crondelith_partner_connections crondelith_connections_of(uint64_t map, uint64_t partner);
+
+/* The map of a connection table, for tables that come without one. number: 0, or 1 if the table isn't 4,096 bytes: then the map is 0. */
+typedef struct {
+    uint32_t number;
+    uint64_t map;
+} crondelith_rebuilt;
+
+crondelith_rebuilt crondelith_rebuild(const uint8_t *connections, size_t connections_length);
 
 /* Why is a call turned away, or what decides it? These answer for the call that the function without 'explain_' in its name would be
  * asked for, from the same tables and with buffers of such lengths; they only read. Link libcrondelith_reasons.a.

@@ -7,9 +7,12 @@ ghost use Rattle.rules.specs.Tables.{lent};
 ghost use Rattle.rules.specs.Sizes.{connectionCount, leastBuffer};
 ghost use Rattle.rules.specs.Calls.{closing};
 ghost use Rattle.rules.specs.Plans.{plan};
-ghost use Rattle.rules.specs.Step.{step, done};
+ghost use Rattle.rules.specs.Step.{done};
+ghost use Rattle.connection_map.specs.Steps.{stepWithMap};
 ghost use Rattle.answers.specs.Results.{result, shown};
+ghost use Rattle.call_answers.specs.Returned.{returned, asReturned};
 use answers::Answer;
+use call_answers::CallAnswer;
 
 // The work of a close that passes its checks: what ends, who is told, and the clock.
 fn accept(
@@ -44,13 +47,14 @@ pub extern "C" fn crondelith_close(
     connections: &mut [u8],
     leases: &mut [u8],
     allowances: &mut [u8],
+    map: u64,
     time: u64,
     connection: u64,
     relay: &mut [u8],
-) -> Answer
-    ensures { λ r. ⌜ result r (lent (now (connections .exit)) (now (leases .exit)) (now (allowances .exit))) [] (now (relay .exit))
-        ≡ shown (step (lent (now (connections .entry)) (now (leases .entry)) (now (allowances .entry))) (closing time connection
-        (now (relay .entry)))) ⌝ }
+) -> CallAnswer
+    ensures { λ r. ⌜ returned r (lent (now (connections .exit)) (now (leases .exit)) (now (allowances .exit))) [] (now (relay .exit))
+        ≡ asReturned (stepWithMap (lent (now (connections .entry)) (now (leases .entry)) (now (allowances .entry))) map
+        (closing time connection (now (relay .entry)))) ⌝ }
 {
     let refusal = refusals::close::refusal(
         connections,
@@ -61,14 +65,9 @@ pub extern "C" fn crondelith_close(
         relay.len(),
     );
     if refusal != 0 {
-        return answers::sent_nothing(refusal);
+        return call_answers::refused(refusal, map);
     }
-    accept(
-        connections,
-        leases,
-        allowances,
-        time,
-        connection as u8,
-        relay,
-    )
+    let c = connection as u8;
+    let answer = accept(connections, leases, allowances, time, c, relay);
+    call_answers::closed(answer, map, c)
 }

@@ -9,11 +9,12 @@ ghost use Rattle.rules.specs.Sizes.{connectionCount, connectionsSize, leastBuff
 ghost use Rattle.rules.specs.Keepalives.{ask};
 ghost use Rattle.rules.specs.Calls.{keepalive};
 ghost use Rattle.rules.specs.Plans.{replyOnly, disconnecting, planClose, planKeepalive};
-ghost use Rattle.rules.specs.Step.{step};
+ghost use Rattle.connection_map.specs.Steps.{stepWithMap};
 ghost use Rattle.answers.specs.Applied.{handled, applied};
-ghost use Rattle.answers.specs.Results.{result, shown};
+ghost use Rattle.call_answers.specs.Returned.{returned, asReturned};
 ghost use Rattle.relay_keepalive.specs.Asked.{Askable};
 use answers::Answer;
+use call_answers::CallAnswer;
 
 // A dead connection: closed as by a close, and the host has to disconnect it.
 fn end(connections: &mut [u8], leases: &mut [u8], c: u8, relay: &mut [u8]) -> Answer
@@ -65,14 +66,15 @@ pub extern "C" fn crondelith_keepalive(
     connections: &mut [u8],
     leases: &mut [u8],
     allowances: &mut [u8],
+    map: u64,
     time: u64,
     connection: u64,
     reply: &mut [u8],
     relay: &mut [u8],
-) -> Answer
-    ensures { λ r. ⌜ result r (lent (now (connections .exit)) (now (leases .exit)) (now (allowances .exit))) (now (reply .exit))
+) -> CallAnswer
+    ensures { λ r. ⌜ returned r (lent (now (connections .exit)) (now (leases .exit)) (now (allowances .exit))) (now (reply .exit))
         (now (relay .exit))
-        ≡ shown (step (lent (now (connections .entry)) (now (leases .entry)) (now (allowances .entry)))
+        ≡ asReturned (stepWithMap (lent (now (connections .entry)) (now (leases .entry)) (now (allowances .entry))) map
         (keepalive time connection (now (reply .entry)) (now (relay .entry)))) ⌝ }
 {
     let refusal = refusals::keepalive::refusal(
@@ -85,7 +87,7 @@ pub extern "C" fn crondelith_keepalive(
         relay.len(),
     );
     if refusal != 0 {
-        return answers::sent_nothing(refusal);
+        return call_answers::refused(refusal, map);
     }
     let c = connection as u8;
     let answer = attend(connections, leases, time, c, reply, relay);
@@ -98,5 +100,5 @@ pub extern "C" fn crondelith_keepalive(
         answer.destination,
     );
     allowance_table::set_clock(allowances, time);
-    answer
+    call_answers::closed_if_disconnected(answer, map, c)
 }

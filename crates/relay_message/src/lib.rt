@@ -2,25 +2,26 @@
 ghost use mathlib.Core.Path.{_≡_};
 ghost use Rattle.rules.specs.Tables.{lent};
 ghost use Rattle.rules.specs.Calls.{message};
-ghost use Rattle.rules.specs.Step.{step};
-ghost use Rattle.answers.specs.Results.{result, shown};
-use answers::Answer;
+ghost use Rattle.connection_map.specs.Steps.{stepWithMap};
+ghost use Rattle.call_answers.specs.Returned.{returned, asReturned};
+use call_answers::CallAnswer;
 
 #[no_mangle]
 pub extern "C" fn crondelith_message(
     connections: &mut [u8],
     leases: &mut [u8],
     allowances: &mut [u8],
+    map: u64,
     time: u64,
     connection: u64,
     m: &[u8],
     random: &[u8],
     reply: &mut [u8],
     relay: &mut [u8],
-) -> Answer
-    ensures { λ r. ⌜ result r (lent (now (connections .exit)) (now (leases .exit)) (now (allowances .exit))) (now (reply .exit))
+) -> CallAnswer
+    ensures { λ r. ⌜ returned r (lent (now (connections .exit)) (now (leases .exit)) (now (allowances .exit))) (now (reply .exit))
         (now (relay .exit))
-        ≡ shown (step (lent (now (connections .entry)) (now (leases .entry)) (now (allowances .entry)))
+        ≡ asReturned (stepWithMap (lent (now (connections .entry)) (now (leases .entry)) (now (allowances .entry))) map
         (message time connection (now (m .entry)) (now (random .entry)) (now (reply .entry)) (now (relay .entry)))) ⌝ }
 {
     let assessment = message_refusal::assess(
@@ -35,7 +36,7 @@ pub extern "C" fn crondelith_message(
         relay.len(),
     );
     if assessment.number != 0 {
-        return answers::sent_nothing(assessment.number);
+        return call_answers::refused(assessment.number, map);
     }
     let c = connection as u8;
     let decision = assessment.decision;
@@ -61,5 +62,5 @@ pub extern "C" fn crondelith_message(
         answer.destination,
     );
     charges::settle(allowances, time, c, m, assessment.price);
-    answer
+    call_answers::closed_if_disconnected(answer, map, c)
 }

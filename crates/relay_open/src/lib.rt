@@ -7,10 +7,13 @@ ghost use Rattle.rules.specs.Tables.{lent};
 ghost use Rattle.rules.specs.Sizes.{openCost, leastBuffer};
 ghost use Rattle.rules.specs.Calls.{opening};
 ghost use Rattle.rules.specs.Plans.{plan};
-ghost use Rattle.rules.specs.Step.{step, done};
+ghost use Rattle.rules.specs.Step.{done};
+ghost use Rattle.connection_map.specs.Steps.{stepWithMap};
 ghost use Rattle.answers.specs.Results.{result, shown};
 ghost use Rattle.refusals.specs.Passed.{Payable};
+ghost use Rattle.call_answers.specs.Returned.{returned, asReturned};
 use answers::Answer;
+use call_answers::CallAnswer;
 
 // The work of an open that passes its checks.
 fn accept(
@@ -45,13 +48,14 @@ pub extern "C" fn crondelith_open(
     connections: &mut [u8],
     leases: &mut [u8],
     allowances: &mut [u8],
+    map: u64,
     time: u64,
     connection: u64,
     reply: &mut [u8],
-) -> Answer
-    ensures { λ r. ⌜ result r (lent (now (connections .exit)) (now (leases .exit)) (now (allowances .exit))) (now (reply .exit)) []
-        ≡ shown (step (lent (now (connections .entry)) (now (leases .entry)) (now (allowances .entry))) (opening time connection
-        (now (reply .entry)))) ⌝ }
+) -> CallAnswer
+    ensures { λ r. ⌜ returned r (lent (now (connections .exit)) (now (leases .exit)) (now (allowances .exit))) (now (reply .exit)) []
+        ≡ asReturned (stepWithMap (lent (now (connections .entry)) (now (leases .entry)) (now (allowances .entry))) map
+        (opening time connection (now (reply .entry)))) ⌝ }
 {
     let refusal = refusals::open::refusal(
         connections,
@@ -62,7 +66,9 @@ pub extern "C" fn crondelith_open(
         reply.len(),
     );
     if refusal != 0 {
-        return answers::sent_nothing(refusal);
+        return call_answers::refused(refusal, map);
     }
-    accept(connections, allowances, time, connection as u8, reply)
+    let c = connection as u8;
+    let answer = accept(connections, allowances, time, c, reply);
+    call_answers::opened(answer, map, c)
 }

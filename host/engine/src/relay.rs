@@ -29,16 +29,37 @@ pub struct Answer {
     pub destination: u32,
     /// 1: the host has to disconnect the caller.
     pub disconnect: u32,
+    /// The map of the connections afterwards: bit c, from the lowest, is 1 while connection c isn't closed.
+    pub map: u64,
 }
 
 // host/c/crondelith_check.c has the same numbers about the header's struct.
-const _: () = assert!(size_of::<Answer>() == 20 && align_of::<Answer>() == 4 && offset_of!(Answer, disconnect) == 16);
+const _: () = assert!(size_of::<Answer>() == 32 && align_of::<Answer>() == 8 && offset_of!(Answer, map) == 24);
 
-impl From<[u32; 5]> for Answer {
-    fn from([number, reply, relay, destination, disconnect]: [u32; 5]) -> Self {
-        Self { number, reply, relay, destination, disconnect }
-    }
+/// `crondelith_partner_connections`.
+#[repr(C)]
+#[derive(Clone, Copy, Debug, PartialEq, Eq)]
+pub struct PartnerConnections {
+    /// 0, or 3 if there is no such partner.
+    pub number: u32,
+    /// How many connections it has.
+    pub connections: u32,
+    /// The lowest of its numbers that is closed, or [`NOBODY`].
+    pub lowest: u32,
 }
+
+const _: () = assert!(size_of::<PartnerConnections>() == 12 && align_of::<PartnerConnections>() == 4);
+
+/// `crondelith_rebuilt`.
+#[repr(C)]
+#[derive(Clone, Copy, Debug, PartialEq, Eq)]
+pub struct Rebuilt {
+    /// 0, or 1 if the table has another size.
+    pub number: u32,
+    pub map: u64,
+}
+
+const _: () = assert!(size_of::<Rebuilt>() == 16 && align_of::<Rebuilt>() == 8 && offset_of!(Rebuilt, map) == 8);
 
 /// The three tables, lent for a call. Another length than the table's is refused.
 #[derive(Debug)]
@@ -50,9 +71,10 @@ pub struct Tables<'a> {
 
 declare_on_tables! {
     mut -> Answer;
-    crondelith_fresh(now: u64, term: u64);
-    crondelith_open(now: u64, connection: u64, reply: *mut u8, reply_length: usize);
+    crondelith_fresh(map: u64, now: u64, term: u64);
+    crondelith_open(map: u64, now: u64, connection: u64, reply: *mut u8, reply_length: usize);
     crondelith_message(
+        map: u64,
         now: u64,
         connection: u64,
         message: *const u8,
@@ -64,8 +86,9 @@ declare_on_tables! {
         relay: *mut u8,
         relay_length: usize
     );
-    crondelith_close(now: u64, connection: u64, relay: *mut u8, relay_length: usize);
+    crondelith_close(map: u64, now: u64, connection: u64, relay: *mut u8, relay_length: usize);
     crondelith_keepalive(
+        map: u64,
         now: u64,
         connection: u64,
         reply: *mut u8,
@@ -76,19 +99,20 @@ declare_on_tables! {
 }
 
 /// Makes a fresh relay of the tables, whose leases last so many seconds; 0 means 600.
-pub fn fresh(tables: Tables, now: u64, term: u64) -> Answer {
-    call_on_tables!(crondelith_fresh, tables.as_mut_ptr, now, term)
+pub fn fresh(tables: Tables, map: u64, now: u64, term: u64) -> Answer {
+    call_on_tables!(crondelith_fresh, tables.as_mut_ptr, map, now, term)
 }
 
 /// Opens a connection: the reply is the version message.
-pub fn open(tables: Tables, now: u64, connection: u64, reply: &mut [u8]) -> Answer {
-    call_on_tables!(crondelith_open, tables.as_mut_ptr, now, connection, reply.as_mut_ptr(), reply.len())
+pub fn open(tables: Tables, map: u64, now: u64, connection: u64, reply: &mut [u8]) -> Answer {
+    call_on_tables!(crondelith_open, tables.as_mut_ptr, map, now, connection, reply.as_mut_ptr(), reply.len())
 }
 
 /// Takes a message from a connection.
 #[inline]
 pub fn message(
     tables: Tables,
+    map: u64,
     now: u64,
     connection: u64,
     message: &[u8],
@@ -99,6 +123,7 @@ pub fn message(
     call_on_tables!(
         crondelith_message,
         tables.as_mut_ptr,
+        map,
         now,
         connection,
         message.as_ptr(),
@@ -113,15 +138,16 @@ pub fn message(
 }
 
 /// Closes a connection.
-pub fn close(tables: Tables, now: u64, connection: u64, relay: &mut [u8]) -> Answer {
-    call_on_tables!(crondelith_close, tables.as_mut_ptr, now, connection, relay.as_mut_ptr(), relay.len())
+pub fn close(tables: Tables, map: u64, now: u64, connection: u64, relay: &mut [u8]) -> Answer {
+    call_on_tables!(crondelith_close, tables.as_mut_ptr, map, now, connection, relay.as_mut_ptr(), relay.len())
 }
 
 /// Finds out whether a connection is dead: it is closed, or asked, or nothing is due.
-pub fn keepalive(tables: Tables, now: u64, connection: u64, reply: &mut [u8], relay: &mut [u8]) -> Answer {
+pub fn keepalive(tables: Tables, map: u64, now: u64, connection: u64, reply: &mut [u8], relay: &mut [u8]) -> Answer {
     call_on_tables!(
         crondelith_keepalive,
         tables.as_mut_ptr,
+        map,
         now,
         connection,
         reply.as_mut_ptr(),
@@ -129,4 +155,23 @@ pub fn keepalive(tables: Tables, now: u64, connection: u64, reply: &mut [u8], re
         relay.as_mut_ptr(),
         relay.len()
     )
+}
+
+mod map {
+    extern "C" {
+        pub fn crondelith_connections_of(map: u64, partner: u64) -> super::PartnerConnections;
+        pub fn crondelith_rebuild(connections: *const u8, connections_length: usize) -> super::Rebuilt;
+    }
+}
+
+/// How many connections a partner has, and which number a new one gets.
+pub fn connections_of(map: u64, partner: u64) -> PartnerConnections {
+    // SAFETY: two numbers go in, and numbers come out; the function is total.
+    unsafe { map::crondelith_connections_of(map, partner) }
+}
+
+/// The map of a connection table.
+pub fn rebuild(connections: &[u8]) -> Rebuilt {
+    // SAFETY: the pointer and the length are those of a slice borrowed for the call; the function only reads within it.
+    unsafe { map::crondelith_rebuild(connections.as_ptr(), connections.len()) }
 }

@@ -9,8 +9,8 @@ use Rattle.relay_fresh.proofs.crondelith_fresh.Tie as tie
 refusal-requires : tie.Need-refusal-requires
 refusal-requires c κs = search needs
 
-sent-nothing-requires : tie.Need-sent-nothing-requires
-sent-nothing-requires c κs = search needs
+refused-requires : tie.Need-refused-requires
+refused-requires c κs = search needs
 
 same-length : tie.Need-same-length
 same-length c = search needs
@@ -24,25 +24,32 @@ same-length-3 c = search needs
 returns : tie.Need-returns
 returns c =
     let a = c .before .before .before .before .before .before .before .before .before .args in
-    start-refused (lent (a .connections .now) (a .leases .now) (a .allowances .now)) (a .time) (a .term) _ (c .before .before .refusal .ensures) (c .before .if1 .taken) _ (c .sent-nothing .ensures)
+    let tables = lent (a .connections .now) (a .leases .now) (a .allowances .now) in
+    start-refused tables (a .map) (a .time) (a .term) _ (c .before .before .refusal .ensures) (c .before .if1 .taken) _ (c .refused .ensures)
 
 fresh-connections-requires : tie.Need-fresh-connections-requires
 fresh-connections-requires c κs =
     let a = c .before .before .before .before .before .before .before .before .before .args in
-    start-sized (lent (a .connections .now) (a .leases .now) (a .allowances .now)) (a .time) (a .term) _ (c .before .before .refusal .ensures) (c .before .if1 .left) .connections
+    let tables = lent (a .connections .now) (a .leases .now) (a .allowances .now) in
+    start-sized tables (a .time) (a .term) _ (c .before .before .refusal .ensures) (c .before .if1 .left) .connections
 
 fresh-leases-requires : tie.Need-fresh-leases-requires
 fresh-leases-requires c κs =
     let a = c .before .before .before .before .before .before .before .before .before .before .before .before .before .args in
-    start-sized (lent (a .connections .now) (a .leases .now) (a .allowances .now)) (a .time) (a .term) _ (c .before .before .before .before .before .before .refusal .ensures) (c .before .before .before .before .before .if1 .left) .leases
+    let tables = lent (a .connections .now) (a .leases .now) (a .allowances .now) in
+    start-sized tables (a .time) (a .term) _ (c .before .before .before .before .before .before .refusal .ensures) (c .before .before .before .before .before .if1 .left) .leases
 
 fresh-allowances-requires : tie.Need-fresh-allowances-requires
 fresh-allowances-requires c κs =
     let a = c .before .before .before .before .before .before .before .before .before .before .before .before .before .before .before .before .before .args in
-    start-sized (lent (a .connections .now) (a .leases .now) (a .allowances .now)) (a .time) (a .term) _ (c .before .before .before .before .before .before .before .before .before .before .refusal .ensures) (c .before .before .before .before .before .before .before .before .before .if1 .left) .allowances
+    let tables = lent (a .connections .now) (a .leases .now) (a .allowances .now) in
+    start-sized tables (a .time) (a .term) _ (c .before .before .before .before .before .before .before .before .before .before .refusal .ensures) (c .before .before .before .before .before .before .before .before .before .if1 .left) .allowances
 
-sent-nothing-requires-2 : tie.Need-sent-nothing-requires-2
-sent-nothing-requires-2 c κs = search needs
+sent-nothing-requires : tie.Need-sent-nothing-requires
+sent-nothing-requires c κs = search needs
+
+with-map-requires : tie.Need-with-map-requires
+with-map-requires c κs = search needs
 
 same-length-4 : tie.Need-same-length-4
 same-length-4 c = search needs
@@ -55,16 +62,17 @@ same-length-6 c = search needs
 
 returns-2 : tie.Need-returns-2
 returns-2 c =
-    let a = c .before .before .before .before .before .before .before .before .before .before .before .before .before .before .before .before .before .before .before .before .before .args in
-    start-done (lent (a .connections .now) (a .leases .now) (a .allowances .now)) (a .time) (a .term) _ (c .before .before .before .before .before .before .before .before .before .before .before .before .before .before .refusal .ensures) (c .before .before .before .before .before .before .before .before .before .before .before .before .before .if1 .left) _ _ _ _ (c .sent-nothing2 .ensures) (c .before .before .before .before .before .before .before .before .before .before .before .fresh-connections .ensures (a .time) (a .term))
-    (c .before .before .before .before .before .before .before .fresh-leases .ensures (a .time) (a .term)) (c .before .before .before .fresh-allowances .ensures)
+    let a = c .before .before .before .before .before .before .before .before .before .before .before .before .before .before .before .before .before .before .before .before .before .before .args in
+    let tables = lent (a .connections .now) (a .leases .now) (a .allowances .now) in
+    start-done tables (a .map) (a .time) (a .term) _ (c .before .before .before .before .before .before .before .before .before .before .before .before .before .before .before .refusal .ensures) (c .before .before .before .before .before .before .before .before .before .before .before .before .before .before .if1 .left) _ _ _ _ _ (c .before .sent-nothing .ensures) (c .with-map .ensures)
+    (c .before .before .before .before .before .before .before .before .before .before .before .before .fresh-connections .ensures (a .time) (a .term)) (c .before .before .before .before .before .before .before .before .fresh-leases .ensures (a .time) (a .term)) (c .before .before .before .before .fresh-allowances .ensures)
 
 pub crondelith-fresh-spec : {M : Type 1} → statement M
 crondelith-fresh-spec =
     tie.close
     (tie.spec
     refusal-requires
-    sent-nothing-requires
+    refused-requires
     same-length
     same-length-2
     same-length-3
@@ -72,7 +80,8 @@ crondelith-fresh-spec =
     fresh-connections-requires
     fresh-leases-requires
     fresh-allowances-requires
-    sent-nothing-requires-2
+    sent-nothing-requires
+    with-map-requires
     same-length-4
     same-length-5
     same-length-6

@@ -3,8 +3,9 @@ use native.Mathlib.Omega.{arith}
 use mathlib.Core.Path.{refl}
 use Rattle.rules.specs.Tables.{lent}
 use Rattle.rules.specs.Calls.{keepalive}
+use Rattle.connection_map.specs.Maps.{mapOfDone}
 use Rattle.refusals.proofs.Stops.{call-known}
-use Rattle.answers.proofs.Ways.{refused-way}
+use Rattle.call_answers.proofs.Ways.{refused-mapped, settled-mapped}
 use Rattle.relay_keepalive.proofs.Ways.{askable, keepalive-way}
 use borrow.Author.Needs.{needs}
 use Rattle.relay_keepalive.proofs.crondelith_keepalive.Statement.{statement}
@@ -13,8 +14,8 @@ use Rattle.relay_keepalive.proofs.crondelith_keepalive.Tie as tie
 refusal-requires : tie.Need-refusal-requires
 refusal-requires c κs = search needs
 
-sent-nothing-requires : tie.Need-sent-nothing-requires
-sent-nothing-requires c κs = search needs
+refused-requires : tie.Need-refused-requires
+refused-requires c κs = search needs
 
 same-length : tie.Need-same-length
 same-length c = search needs
@@ -28,24 +29,33 @@ same-length-3 c = search needs
 returns : tie.Need-returns
 returns c =
     let a = c .before .before .before .before .before .before .before .before .before .before .before .args in
-    refused-way (lent (a .connections .now) (a .leases .now) (a .allowances .now)) (keepalive (a .time) (a .connection) (a .reply .now) (a .relay .now)) _ (c .before .before .refusal .ensures (a .reply .now) (a .relay .now) refl refl) (c .before .if1 .taken) _ (c .sent-nothing .ensures)
+    let tables = lent (a .connections .now) (a .leases .now) (a .allowances .now) in
+    refused-mapped tables (a .map) (keepalive (a .time) (a .connection) (a .reply .now) (a .relay .now)) _ (c .before .before .refusal .ensures (a .reply .now) (a .relay .now) refl refl) (c .before .if1 .taken) _ (c .refused .ensures)
 
 cast-c : tie.Need-cast-c
 cast-c c =
     let a = c .before .before .before .before .before .before .before .before .before .before .args in
-    let known = call-known (lent (a .connections .now) (a .leases .now) (a .allowances .now)) (keepalive (a .time) (a .connection) (a .reply .now) (a .relay .now)) _ (c .before .refusal .ensures (a .reply .now) (a .relay .now) refl refl) (c .if1 .left) in
+    let tables = lent (a .connections .now) (a .leases .now) (a .allowances .now) in
+    let known = call-known tables (keepalive (a .time) (a .connection) (a .reply .now) (a .relay .now)) _ (c .before .refusal .ensures (a .reply .now) (a .relay .now) refl refl) (c .if1 .left) in
     omega arith
 
 attend-requires : tie.Need-attend-requires
 attend-requires c κs =
     let a = c .before .before .before .before .before .before .before .before .before .before .before .before .before .before .args in
-    askable (lent (a .connections .now) (a .leases .now) (a .allowances .now)) (a .time) (a .connection) (a .reply .now) (a .relay .now) _ (c .before .before .before .before .before .refusal .ensures (a .reply .now) (a .relay .now) refl refl) (c .before .before .before .before .if1 .left)
+    let tables = lent (a .connections .now) (a .leases .now) (a .allowances .now) in
+    askable tables (a .time) (a .connection) (a .reply .now) (a .relay .now) _ (c .before .before .before .before .before .refusal .ensures (a .reply .now) (a .relay .now) refl refl) (c .before .before .before .before .if1 .left)
 
 sent-requires : tie.Need-sent-requires
 sent-requires c κs = search needs
 
 set-clock-requires : tie.Need-set-clock-requires
 set-clock-requires c κs = search needs
+
+closed-if-disconnected-requires : tie.Need-closed-if-disconnected-requires
+closed-if-disconnected-requires c κs =
+    let a = c .before .before .before .before .before .before .before .before .before .before .before .before .before .before .before .before .before .before .before .before .before .before .before .before .before .before .before .before .before .before .before .args in
+    let tables = lent (a .connections .now) (a .leases .now) (a .allowances .now) in
+    call-known tables (keepalive (a .time) (a .connection) (a .reply .now) (a .relay .now)) _ (c .before .before .before .before .before .before .before .before .before .before .before .before .before .before .before .before .before .before .before .before .before .before .refusal .ensures (a .reply .now) (a .relay .now) refl refl) (c .before .before .before .before .before .before .before .before .before .before .before .before .before .before .before .before .before .before .before .before .before .if1 .left)
 
 same-length-4 : tie.Need-same-length-4
 same-length-4 c = search needs
@@ -63,17 +73,22 @@ same-length-8 : tie.Need-same-length-8
 same-length-8 c = search needs
 
 returns-2 : tie.Need-returns-2
+unfolding mapOfDone
 returns-2 c =
-    let a = c .before .before .before .before .before .before .before .before .before .before .before .before .before .before .before .before .before .before .before .before .before .before .before .before .before .before .before .before .before .before .before .args in
-    keepalive-way (lent (a .connections .now) (a .leases .now) (a .allowances .now)) (a .time) (a .connection) (a .reply .now) (a .relay .now) _ (c .before .before .before .before .before .before .before .before .before .before .before .before .before .before .before .before .before .before .before .before .before .before .refusal .ensures (a .reply .now) (a .relay .now) refl refl) (c .before .before .before .before .before .before .before .before .before .before .before .before .before .before .before .before .before .before .before .before .before .if1 .left) _ _ _ _ _ _ (c .before .before .before .before .before .before .before .before .before .before .before .before .before .before .before .before .attend .result)
-    (c .before .before .before .before .before .before .before .before .before .before .before .before .before .before .before .before .attend .ensures (a .allowances .now)) (c .before .before .before .before .before .before .sent .ensures) (c .before .before .set-clock .ensures)
+    let a = c .before .before .before .before .before .before .before .before .before .before .before .before .before .before .before .before .before .before .before .before .before .before .before .before .before .before .before .before .before .before .before .before .args in
+    let tables = lent (a .connections .now) (a .leases .now) (a .allowances .now) in
+    let checked = c .before .before .before .before .before .before .before .before .before .before .before .before .before .before .before .before .before .before .before .before .before .before .before .refusal .ensures (a .reply .now) (a .relay .now) refl refl in
+    let passed = c .before .before .before .before .before .before .before .before .before .before .before .before .before .before .before .before .before .before .before .before .before .before .if1 .left in
+    settled-mapped tables (a .map) (keepalive (a .time) (a .connection) (a .reply .now) (a .relay .now)) _ checked passed _ _ _ _
+    (keepalive-way tables (a .time) (a .connection) (a .reply .now) (a .relay .now) _ checked passed _ _ _ _ _ _ (c .before .before .before .before .before .before .before .before .before .before .before .before .before .before .before .before .before .attend .result) (c .before .before .before .before .before .before .before .before .before .before .before .before .before .before .before .before .before .attend .ensures (a .allowances .now)) (c .before .before .before .before .before .before .before .sent .ensures) (c .before .before .before .set-clock .ensures))
+    _ (λ d. refl) (c .closed-if-disconnected .ensures)
 
 pub crondelith-keepalive-spec : {M : Type 1} → statement M
 crondelith-keepalive-spec =
     tie.close
     (tie.spec
     refusal-requires
-    sent-nothing-requires
+    refused-requires
     same-length
     same-length-2
     same-length-3
@@ -82,6 +97,7 @@ crondelith-keepalive-spec =
     attend-requires
     sent-requires
     set-clock-requires
+    closed-if-disconnected-requires
     same-length-4
     same-length-5
     same-length-6

@@ -3,26 +3,19 @@ use native.Mathlib.Omega.{arith}
 use mathlib.Core.Path.{refl, _∙_}
 use Rattle.rules.specs.Tables.{lent}
 use Rattle.rules.specs.Calls.{message}
+use Rattle.connection_map.specs.Maps.{mapOfDone}
 use Rattle.message_refusal.proofs.MessageStops.{assessed-number}
-use Rattle.answers.proofs.Ways.{refused-way}
+use Rattle.call_answers.proofs.Ways.{refused-mapped, settled-mapped}
 use Rattle.relay_message.proofs.Ways.{admitted, feasible, admitted-payable, message-way}
 use borrow.Author.Needs.{needs}
 use Rattle.relay_message.proofs.crondelith_message.Statement.{statement}
 use Rattle.relay_message.proofs.crondelith_message.Tie as tie
-use Rattle.relay_message.proofs.crondelith_message.Reads as reads
-use Rattle.relay_message.proofs.crondelith_message.Lts as lts
-use Rattle.answers.proofs.sent_nothing.Reads as sent-nothing-reads
-use Rattle.charges.proofs.settle.Reads as settle-reads
-use Rattle.dispatch.proofs.handle.Reads as handle-reads
-use Rattle.keepalives.proofs.answered.Reads as answered-reads
-use Rattle.keepalives.proofs.sent.Reads as sent-reads
-use Rattle.message_refusal.proofs.assess.Reads as assess-reads
 
 assess-requires : tie.Need-assess-requires
 assess-requires c κs = search needs
 
-sent-nothing-requires : tie.Need-sent-nothing-requires
-sent-nothing-requires c κs = search needs
+refused-requires : tie.Need-refused-requires
+refused-requires c κs = search needs
 
 same-length : tie.Need-same-length
 same-length c = search needs
@@ -39,7 +32,7 @@ returns c =
     let a = s .before .before .before .before .before .before .before .before .before .before .before .before .before .args in
     let tables = lent (a .connections .now) (a .leases .now) (a .allowances .now) in
     let all = s .before .before .assess .ensures (a .reply .now) (a .relay .now) refl refl in
-    refused-way tables (message (a .time) (a .connection) (a .m .now) (a .random .now) (a .reply .now) (a .relay .now)) _ (assessed-number tables (a .time) (a .connection) (a .m .now) (a .random .now) (a .reply .now) (a .relay .now) (s .before .before .assess .result) all) (s .if1 .taken) (c .sent-nothing .result) (c .sent-nothing .ensures)
+    refused-mapped tables (a .map) (message (a .time) (a .connection) (a .m .now) (a .random .now) (a .reply .now) (a .relay .now)) _ (assessed-number tables (a .time) (a .connection) (a .m .now) (a .random .now) (a .reply .now) (a .relay .now) (s .before .before .assess .result) all) (s .if1 .taken) _ (c .refused .ensures)
 
 cast-c : tie.Need-cast-c
 cast-c c =
@@ -71,6 +64,14 @@ settle-requires c κs =
     let all = s .before .before .assess .ensures (a .reply .now) (a .relay .now) refl refl in
     admitted-payable tables (a .time) (a .connection) (a .m .now) (a .random .now) (a .reply .now) (a .relay .now) (s .before .before .assess .result) all (s .if1 .left)
 
+closed-if-disconnected-requires : tie.Need-closed-if-disconnected-requires
+closed-if-disconnected-requires c κs =
+    let s = c .before .before .before .before .before .before .before .before .before .before .before .before .before .before .before .before .before .before .before .before .before .before .before .before .before .before in
+    let a = s .before .before .before .before .before .before .before .before .before .before .before .before .before .args in
+    let tables = lent (a .connections .now) (a .leases .now) (a .allowances .now) in
+    let all = s .before .before .assess .ensures (a .reply .now) (a .relay .now) refl refl in
+    admitted tables (a .time) (a .connection) (a .m .now) (a .random .now) (a .reply .now) (a .relay .now) (s .before .before .assess .result) all (s .if1 .left) .known
+
 same-length-4 : tie.Need-same-length-4
 same-length-4 c = search needs
 
@@ -87,20 +88,23 @@ same-length-8 : tie.Need-same-length-8
 same-length-8 c = search needs
 
 returns-2 : tie.Need-returns-2
+unfolding mapOfDone
 returns-2 c =
-    let s = c .before .before .before .before .before .before .before .before .before .before .before .before .before .before .before .before .before .before .before .before .before .before .before .before .before .before in
+    let s = c .before .before .before .before .before .before .before .before .before .before .before .before .before .before .before .before .before .before .before .before .before .before .before .before .before .before .before in
     let a = s .before .before .before .before .before .before .before .before .before .before .before .before .before .args in
     let tables = lent (a .connections .now) (a .leases .now) (a .allowances .now) in
     let all = s .before .before .assess .ensures (a .reply .now) (a .relay .now) refl refl in
-    message-way tables (a .time) (a .connection) (a .m .now) (a .random .now) (a .reply .now) (a .relay .now) (s .before .before .assess .result) all (s .if1 .left) _ _ _ _ _ _ (c .before .before .before .before .before .before .before .before .before .before .before .before .before .before .before .before .before .before .before .before .handle .result) (c .before .before .before .before .before .before .before .before .before .before .before .before .before .before .before .before .before .before .before .before .handle .ensures)
-    (c .before .before .before .before .before .before .sent .ensures ∙ rw (c .before .before .before .before .before .before .before .before .before .before .answered .ensures)) (c .before .before .settle .ensures (a .random .now) (a .reply .now) (a .relay .now))
+    settled-mapped tables (a .map) (message (a .time) (a .connection) (a .m .now) (a .random .now) (a .reply .now) (a .relay .now)) _ (assessed-number tables (a .time) (a .connection) (a .m .now) (a .random .now) (a .reply .now) (a .relay .now) (s .before .before .assess .result) all) (s .if1 .left) _ _ _ _
+    (message-way tables (a .time) (a .connection) (a .m .now) (a .random .now) (a .reply .now) (a .relay .now) (s .before .before .assess .result) all (s .if1 .left) _ _ _ _ _ _ (c .before .before .before .before .before .before .before .before .before .before .before .before .before .before .before .before .before .before .before .before .before .handle .result) (c .before .before .before .before .before .before .before .before .before .before .before .before .before .before .before .before .before .before .before .before .before .handle .ensures)
+    (c .before .before .before .before .before .before .before .sent .ensures ∙ rw (c .before .before .before .before .before .before .before .before .before .before .before .answered .ensures)) (c .before .before .before .settle .ensures (a .random .now) (a .reply .now) (a .relay .now)))
+    _ (λ d. refl) (c .closed-if-disconnected .ensures)
 
 pub crondelith-message-spec : {M : Type 1} → statement M
 crondelith-message-spec =
     tie.close
     (tie.spec
     assess-requires
-    sent-nothing-requires
+    refused-requires
     same-length
     same-length-2
     same-length-3
@@ -110,6 +114,7 @@ crondelith-message-spec =
     answered-requires
     sent-requires
     settle-requires
+    closed-if-disconnected-requires
     same-length-4
     same-length-5
     same-length-6

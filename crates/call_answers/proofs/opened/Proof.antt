@@ -1,0 +1,16 @@
+-- `opened`: the answer, and the map with a bit more.
+use borrow.Author.Needs.{needs}
+use Rattle.call_answers.proofs.opened.Statement.{statement}
+use Rattle.call_answers.proofs.opened.Tie as tie
+
+with-bit-requires : tie.Need-with-bit-requires
+with-bit-requires c κs = search needs
+
+with-map-requires : tie.Need-with-map-requires
+with-map-requires c κs = search needs
+
+returns : tie.Need-returns
+returns c = rw (c .with-map .ensures, c .before .with-bit .ensures)
+
+pub opened-spec : {M : Type 1} → statement M
+opened-spec = tie.close (tie.spec with-bit-requires with-map-requires returns)

@@ -1,0 +1,69 @@
+// What a call answers, with the map of the connections, for C; in specs/, the rules' outcome with the map, as C has it.
+ghost use mathlib.Core.Path.{_≡_};
+ghost use Prim.Native.Nat.{_<_};
+ghost use lib.Dec.{eqb};
+ghost use Rattle.octets.specs.Octets.{if_then_else_};
+ghost use Rattle.rules.specs.Sizes.{connectionCount};
+ghost use Rattle.rules.specs.Calls.{refusal};
+ghost use Rattle.connection_map.specs.Bits.{withBit, withoutBit};
+ghost use Rattle.answers.specs.Applied.{coded};
+ghost use Rattle.call_answers.specs.Returned.{answerWith};
+use answers::Answer;
+
+// What a call answers (answers::Answer), and the map afterwards.
+#[repr(C)]
+pub struct CallAnswer {
+    pub number: u32,
+    pub reply: u32,
+    pub relay: u32,
+    pub destination: u32,
+    pub disconnect: u32,
+    pub map: u64,
+}
+
+pub fn with_map(answer: Answer, map: u64) -> CallAnswer
+    ensures { λ r. ⌜ r ≡ answerWith answer map ⌝ }
+{
+    CallAnswer {
+        number: answer.number,
+        reply: answer.reply,
+        relay: answer.relay,
+        destination: answer.destination,
+        disconnect: answer.disconnect,
+        map: map,
+    }
+}
+
+// Refused: the map is given back.
+pub fn refused(number: u32, map: u64) -> CallAnswer
+    ensures { λ r. ⌜ r ≡ answerWith (coded (refusal number)) map ⌝ }
+{
+    with_map(answers::sent_nothing(number), map)
+}
+
+// Done, and connection c is open.
+pub fn opened(answer: Answer, map: u64, c: u8) -> CallAnswer
+    requires { ⌜ c < connectionCount ⌝ }
+    ensures { λ r. ⌜ r ≡ answerWith answer (withBit map c) ⌝ }
+{
+    with_map(answer, connection_bits::with_bit(map, c))
+}
+
+// Done, and connection c is closed.
+pub fn closed(answer: Answer, map: u64, c: u8) -> CallAnswer
+    requires { ⌜ c < connectionCount ⌝ }
+    ensures { λ r. ⌜ r ≡ answerWith answer (withoutBit map c) ⌝ }
+{
+    with_map(answer, connection_bits::without_bit(map, c))
+}
+
+// Done, and connection c is closed if the host has to disconnect it.
+pub fn closed_if_disconnected(answer: Answer, map: u64, c: u8) -> CallAnswer
+    requires { ⌜ c < connectionCount ⌝ }
+    ensures { λ r. ⌜ r ≡ answerWith answer (if eqb (answer .disconnect) 1 then withoutBit map c else map) ⌝ }
+{
+    if answer.disconnect == 1 {
+        return closed(answer, map, c);
+    }
+    with_map(answer, map)
+}

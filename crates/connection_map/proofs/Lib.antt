@@ -1,0 +1,6 @@
+pub mod Bits
+pub mod States
+pub mod Calls
+pub mod Rebuilding
+pub mod Runs
+pub mod Partners
