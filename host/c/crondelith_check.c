@@ -1,18 +1,25 @@
 /* A scene over the compiled engine, through include/crondelith.h as a C program would call it: two connections of one partner lease
  * an id, hold a session, use up their allowance and leave, and each refusal from 1 to 9 comes. After power cuts others come back with
- * the cookie and have the id again, and one that no longer answers is found. Before that, relays of several terms lease an id each.
- * What must come back was worked out from the scope document and the requests by hand. Every other case is compared in Rust
- * (host/compare). */
+ * the cookie and have the id again, and one that no longer answers is found. The map goes from call to call. Before that, relays of
+ * several terms lease an id each; at last a partner takes all its numbers, and maps disagree with the tables. What must come back was
+ * worked out from the scope document and the requests by hand. Every other case is compared in Rust (host/compare). */
 #include <string.h>
 
 #include "check.h"
 #include "crondelith.h"
 
-/* host/engine/src/relay.rs has the same numbers about its struct. */
-_Static_assert(sizeof(crondelith_answer) == 20 && _Alignof(crondelith_answer) == 4, "crondelith_answer");
+/* host/engine/src/relay.rs has the same numbers about its structs. */
+_Static_assert(sizeof(crondelith_answer) == 32 && _Alignof(crondelith_answer) == 8, "crondelith_answer");
 _Static_assert(offsetof(crondelith_answer, reply) == 4 && offsetof(crondelith_answer, relay) == 8, "crondelith_answer");
 _Static_assert(offsetof(crondelith_answer, destination) == 12, "crondelith_answer");
 _Static_assert(offsetof(crondelith_answer, disconnect) == 16, "crondelith_answer");
+_Static_assert(offsetof(crondelith_answer, map) == 24, "crondelith_answer");
+_Static_assert(sizeof(crondelith_partner_connections) == 12, "crondelith_partner_connections");
+_Static_assert(_Alignof(crondelith_partner_connections) == 4, "crondelith_partner_connections");
+_Static_assert(offsetof(crondelith_partner_connections, connections) == 4, "crondelith_partner_connections");
+_Static_assert(offsetof(crondelith_partner_connections, lowest) == 8, "crondelith_partner_connections");
+_Static_assert(sizeof(crondelith_rebuilt) == 16 && _Alignof(crondelith_rebuilt) == 8, "crondelith_rebuilt");
+_Static_assert(offsetof(crondelith_rebuilt, map) == 8, "crondelith_rebuilt");
 
 static uint8_t connections[CRONDELITH_CONNECTIONS], leases[CRONDELITH_LEASES], allowances[CRONDELITH_ALLOWANCES];
 static uint8_t reply[CRONDELITH_BUFFER], relay[65534];
@@ -37,13 +44,25 @@ static const uint8_t other_random_bytes[] = OTHER_COOKIE IDS_2;
 #define ROW 40 /* the length of a lease's record */
 static uint8_t expected_leases[CRONDELITH_LEASES];
 
-#define TABLES connections, sizeof connections, leases, sizeof leases, allowances, sizeof allowances
+/* The map that each call is handed, and the one that it has to give back. */
+static uint64_t map, expected_map;
+
+#define TABLES connections, sizeof connections, leases, sizeof leases, allowances, sizeof allowances, map
 
 static void check_answer(crondelith_answer answer, uint32_t number, uint32_t in_reply, uint32_t in_relay, uint32_t destination,
                          uint32_t disconnect) {
     CHECK(answer.number == number);
     CHECK(answer.reply == in_reply && answer.relay == in_relay);
     CHECK(answer.destination == destination && answer.disconnect == disconnect);
+    CHECK(answer.map == expected_map);
+    map = answer.map;
+}
+
+/* The map is this one, and agrees with the connection table. */
+static void check_map(uint64_t by_hand) {
+    crondelith_rebuilt rebuilt = crondelith_rebuild(connections, sizeof connections);
+    CHECK(map == by_hand);
+    CHECK(rebuilt.number == 0 && rebuilt.map == by_hand);
 }
 
 static crondelith_answer send_with(const uint8_t *random, uint64_t now, uint64_t connection, const void *message, size_t length) {
@@ -56,6 +75,7 @@ static crondelith_answer send(uint64_t now, uint64_t connection, const void *mes
 }
 
 static void check_open(uint64_t now, uint64_t connection) {
+    expected_map |= UINT64_C(1) << connection;
     check_answer(crondelith_open(TABLES, now, connection, reply, sizeof reply), 0, 13, 0, CRONDELITH_NOBODY, 0);
     CHECK(memcmp(reply, "\0SVSC 001.000", 13) == 0);
 }
@@ -80,13 +100,14 @@ static uint64_t number_at(const uint8_t *bytes) {
     return number;
 }
 
-/* A table too short, and then a time too late, comes before the term. Nothing is written. */
+/* A table too short, and then a time too late, comes before the term. Nothing is written, and the map comes back, which is any. */
 static void check_fresh_refusals(void) {
     static const uint64_t terms[] = {1, 599, 86401, UINT64_C(1) << 32, (UINT64_C(1) << 32) + 600, UINT64_MAX};
     static const uint64_t too_late = UINT64_C(1) << 40;
+    map = expected_map = UINT64_C(0x80000000000000A5);
     for (size_t place = 0; place < sizeof terms / sizeof terms[0]; place++) {
         check_refused(crondelith_fresh(connections, sizeof connections - 1, leases, sizeof leases, allowances, sizeof allowances,
-                                       too_late, terms[place]),
+                                       map, too_late, terms[place]),
                       1);
         check_refused(crondelith_fresh(TABLES, too_late, terms[place]), 2);
         check_refused(crondelith_fresh(TABLES, too_late - 1, terms[place]), 6);
@@ -96,10 +117,12 @@ static void check_fresh_refusals(void) {
 }
 
 static void check_fresh(uint64_t term, uint64_t stored) {
+    expected_map = 0;
     check_answer(crondelith_fresh(TABLES, 100, term), 0, 0, 0, CRONDELITH_NOBODY, 0);
     CHECK(connections[0] == 0 && connections[1] == 255 && leases[12] == 255);
     CHECK(memcmp(allowances, "\0\0\0\0\0\4\0\0\0\0\0\0\0\0\0\144", 16) == 0);
     CHECK(number_at(allowances + TERM) == stored && number_at(allowances + TERM + 8) == 100);
+    check_map(0);
 }
 
 static void check_comes(uint64_t now, uint64_t connection) {
@@ -123,6 +146,7 @@ static void check_lasts(uint64_t leased_until, uint64_t extended_until) {
     CHECK(number_at(reply + 2) == extended_until && number_at(expiry) == extended_until);
     check_own_id(extended_until - 1, 5);
     check_own_id(extended_until, 1);
+    check_map(0x100);
 }
 
 /* The tables have this number for the term, whoever stored it, and keep it. */
@@ -152,11 +176,14 @@ static void check_opens(void) {
     check_refused(send(100, 8, "\15", 1), 4);
     check_refused(crondelith_open(TABLES, 100, 8, reply, sizeof reply - 1), 5);
     check_open(100, 8);
+    check_map(0x100);
     check_open(100, 9);
+    check_map(0x300);
     check_refused(send(100, 8, NULL, 0), 6);
     check_refused(send(100, 8, "\2\0", 2), 7);
     check_answer(send(101, 8, "\1\1", 2), 0, 0, 0, CRONDELITH_NOBODY, 0);
     check_answer(send(101, 9, "\1\1", 2), 0, 0, 0, CRONDELITH_NOBODY, 0);
+    check_map(0x300);
 }
 
 /* Nobody has id 5 (status 1). Connection 9 leases id 1 until 3702, 8 establishes a session with it, and data goes both ways. */
@@ -191,10 +218,13 @@ static void check_allowance(void) {
     check_level("\0\0\0\0\0\0\0\0" "\0\0\0\0\0\0\0\156");
     check_refused(send(110, 8, "\15", 1), 9);
     check_open(110, 16);
+    check_map(0x10300);
+    expected_map = 0x300;
     check_answer(send(110, 16, "\1\0", 2), 0, 0, 0, CRONDELITH_NOBODY, 1);
     check_refused(send(112, 9, longest, sizeof longest), 9);
     check_answer(send(113, 9, longest, sizeof longest), 0, 0, 65534, 8, 0);
     check_level("\0\0\0\0\0\0\377\344" "\0\0\0\0\0\0\0\161");
+    check_map(0x300);
 }
 
 /* Connection 8 ends the session, both meet again, which costs 140, and 9 closes in session, then 8. */
@@ -204,11 +234,16 @@ static void check_leave(void) {
     check_level("\0\0\0\0\0\0\377\344" "\0\0\0\0\0\0\0\161");
     check_establish(113);
     check_level("\0\0\0\0\0\0\377\130" "\0\0\0\0\0\0\0\161");
+    check_map(0x300);
     relay[0] = 0;
+    expected_map = 0x100;
     check_answer(crondelith_close(TABLES, 114, 9, relay, CRONDELITH_BUFFER), 0, 0, 1, 8, 0);
     CHECK(relay[0] == 10);
+    check_map(0x100);
+    expected_map = 0;
     check_answer(crondelith_close(TABLES, 114, 8, relay, CRONDELITH_BUFFER), 0, 0, 0, CRONDELITH_NOBODY, 0);
     check_refused(crondelith_close(TABLES, 114, 8, relay, CRONDELITH_BUFFER), 4);
+    check_map(0);
     check_level("\0\0\0\0\0\0\377\130" "\0\0\0\0\0\0\0\161");
 }
 
@@ -236,6 +271,8 @@ static void check_cookie(void) {
     check_row(16, "\0\0\0\0\0\0\16\166\0\0\0\1\377\0\0\0" COOKIE);
     check_granted(send_with(other_random_bytes, 120, 10, request, 26), "\0\0\0\1" COOKIE "\0\0\0\0\0\0\16\210");
     check_row(16, "\0\0\0\0\0\0\16\210\0\0\0\1\12\0\0\0" COOKIE);
+    check_map(0x400);
+    expected_map = 0;
     check_answer(crondelith_close(TABLES, 121, 10, relay, CRONDELITH_BUFFER), 0, 0, 0, CRONDELITH_NOBODY, 0);
     check_comes(9000, 11);
     check_row(16, "\0\0\0\0\0\0\16\210\0\0\0\1\377\0\0\0" COOKIE);
@@ -244,6 +281,7 @@ static void check_cookie(void) {
     check_comes(9000, 12);
     check_granted(send_with(other_random_bytes, 9000, 12, request, 26), ID_2 OTHER_COOKIE "\0\0\0\0\0\0\61\70");
     check_row(17, "\0\0\0\0\0\0\61\70" ID_2 "\14\0\0\0" OTHER_COOKIE);
+    check_map(0x1800);
 }
 
 #define CONNECTION 64 /* the length of a connection's record */
@@ -280,7 +318,7 @@ static void check_keepalive_refusals(void) {
     static uint8_t before[CRONDELITH_CONNECTIONS];
     memcpy(before, connections, sizeof before);
     check_refused(crondelith_keepalive(connections, sizeof connections, leases, sizeof leases - 1, allowances, sizeof allowances,
-                                       9030, 11, reply, sizeof reply, relay, CRONDELITH_BUFFER),
+                                       map, 9030, 11, reply, sizeof reply, relay, CRONDELITH_BUFFER),
                   1);
     check_refused(find_out(8999, 11), 2);
     check_refused(find_out(UINT64_C(1) << 40, 11), 2);
@@ -290,6 +328,7 @@ static void check_keepalive_refusals(void) {
     check_refused(crondelith_keepalive(TABLES, 9030, 11, reply, 64, relay, 63), 5);
     CHECK(memcmp(connections, before, sizeof before) == 0);
     check_clock("\0\0\0\0\0\0\43\50");
+    check_map(0x1800);
 }
 
 /* Connection 11, which holds id 1, was last sent something at 9000, the reply to its lease. It is asked at 9030 and doesn't answer,
@@ -308,7 +347,9 @@ static void check_dead(void) {
     check_record(11, "\2\14\1\0" "\0\0\0\43\175" "\0\0\0\43\106" "\0\0");
     check_record(12, "\2\13\0\0" "\0\0\0\43\107" "\0\0\0\0\0" "\0\0");
     check_quiet(9089, 11);
+    check_map(0x1800);
     relay[0] = 0;
+    expected_map = 0x1000;
     check_answer(find_out(9090, 11), 0, 0, 1, 12, 1);
     CHECK(reply[0] == 200 && relay[0] == 10);
     check_record(11, "\0\377\0\0" "\0\0\0\0\0" "\0\0\0\0\0" "\0\0");
@@ -316,6 +357,7 @@ static void check_dead(void) {
     CHECK(connections[CONNECTION * 12 + 16] == 0 && connections[CONNECTION * 12 + 63] == 0);
     check_row(16, "\0\0\0\0\0\0\61\70\0\0\0\1\377\0\0\0" COOKIE);
     check_refused(find_out(9090, 11), 4);
+    check_map(0x1000);
 }
 
 /* Connection 12 is asked at 9120 and answers at 9121; it is asked again at 9150. */
@@ -335,8 +377,85 @@ static void check_awaiting(void) {
     check_open(9150, 13);
     check_asked(9180, 13);
     check_record(13, "\1\377\1\0" "\0\0\0\43\334" "\0\0\0\43\334" "\0\0");
+    check_map(0x3000);
+    expected_map = 0x1000;
     check_answer(find_out(9240, 13), 0, 0, 0, CRONDELITH_NOBODY, 1);
     check_record(13, "\0\377\0\0" "\0\0\0\0\0" "\0\0\0\0\0" "\0\0");
+    check_map(0x1000);
+}
+
+static void check_partner(uint64_t in_map, uint64_t partner, uint32_t number, uint32_t count, uint32_t lowest) {
+    crondelith_partner_connections found = crondelith_connections_of(in_map, partner);
+    CHECK(found.number == number && found.connections == count && found.lowest == lowest);
+}
+
+static void check_partners(void) {
+    static const uint64_t none[] = {8, 9, 255, 256, UINT64_C(1) << 32, (UINT64_C(1) << 32) + 1, UINT64_MAX};
+    check_partner(0, 0, 0, 0, 0);
+    check_partner(0xFB00, 1, 0, 7, 10);
+    check_partner(0xFB00, 2, 0, 0, 16);
+    check_partner(0xFF00, 0, 0, 0, 0);
+    check_partner(0xFF00, 1, 0, 8, CRONDELITH_NOBODY);
+    check_partner(UINT64_MAX >> 1, 7, 0, 7, 63);
+    check_partner(UINT64_C(1) << 63, 7, 0, 1, 56);
+    for (size_t place = 0; place < sizeof none / sizeof none[0]; place++) {
+        check_partner(0, none[place], 3, 0, CRONDELITH_NOBODY);
+        check_partner(UINT64_MAX, none[place], 3, 0, CRONDELITH_NOBODY);
+    }
+}
+
+static void check_rebuilt(const uint8_t *table, size_t length, uint32_t number, uint64_t by_hand) {
+    crondelith_rebuilt rebuilt = crondelith_rebuild(table, length);
+    CHECK(rebuilt.number == number && rebuilt.map == by_hand);
+}
+
+/* States 1, 3, 255, 2 and 2 of connections 0, 5, 6, 9 and 63: 3 and 255 are closed. */
+static void check_rebuilding(void) {
+    static uint8_t table[CRONDELITH_CONNECTIONS + 1];
+    check_rebuilt(table, CRONDELITH_CONNECTIONS, 0, 0);
+    table[0] = 1;
+    table[CONNECTION * 5] = 3;
+    table[CONNECTION * 6] = 255;
+    table[CONNECTION * 9] = table[CONNECTION * 63] = 2;
+    check_rebuilt(table, CRONDELITH_CONNECTIONS, 0, UINT64_C(0x8000000000000201));
+    check_rebuilt(table, CRONDELITH_CONNECTIONS - 1, 1, 0);
+    check_rebuilt(table, CRONDELITH_CONNECTIONS + 1, 1, 0);
+    check_rebuilt(NULL, 0, 1, 0);
+}
+
+/* The last partner's connections get the numbers 56 to 63, each the lowest that is left. 60 leaves, and the next one gets its number. */
+static void check_numbers(void) {
+    check_fresh(0, 600);
+    for (uint32_t place = 0; place < 8; place++) {
+        check_partner(map, 7, 0, place, 56 + place);
+        check_open(100, 56 + place);
+    }
+    check_map(UINT64_C(0xFF00000000000000));
+    check_partner(map, 7, 0, 8, CRONDELITH_NOBODY);
+    check_partner(map, 6, 0, 0, 48);
+    expected_map = UINT64_C(0xEF00000000000000);
+    check_answer(crondelith_close(TABLES, 100, 60, relay, CRONDELITH_BUFFER), 0, 0, 0, CRONDELITH_NOBODY, 0);
+    check_partner(map, 7, 0, 7, 60);
+    check_open(101, 60);
+    check_map(UINT64_C(0xFF00000000000000));
+}
+
+/* Maps that don't agree: just the caller's bit is set or cleared, which may be so already. Connection 9 is awaiting, and 0 closed at
+ * first. */
+static void check_disagreeing(void) {
+    check_fresh(0, 600);
+    check_open(100, 9);
+    check_map(0x200);
+    map = expected_map = UINT64_MAX;
+    check_open(100, 0);
+    expected_map = UINT64_MAX - 1;
+    check_answer(crondelith_close(TABLES, 100, 0, relay, CRONDELITH_BUFFER), 0, 0, 0, CRONDELITH_NOBODY, 0);
+    map = expected_map = 0x8000;
+    check_answer(send(100, 9, "\1\1", 2), 0, 0, 0, CRONDELITH_NOBODY, 0);
+    check_refused(send(100, 9, "\1\1", 2), 7);
+    check_refused(crondelith_open(TABLES, 100, 9, reply, sizeof reply), 4);
+    check_answer(crondelith_close(TABLES, 100, 9, relay, CRONDELITH_BUFFER), 0, 0, 0, CRONDELITH_NOBODY, 0);
+    check_rebuilt(connections, sizeof connections, 0, 0);
 }
 
 int main(void) {
@@ -353,6 +472,10 @@ int main(void) {
     check_alive();
     check_awaiting();
     CHECK(number_at(allowances + TERM) == 3600);
+    check_partners();
+    check_rebuilding();
+    check_numbers();
+    check_disagreeing();
     printf("crondelith_check: %d failed\n", failures);
     return failures != 0;
 }

@@ -1,5 +1,5 @@
 -- "one that doesn't agree can be rebuilt": the map of a table agrees with it, and no other does. Assumes nothing.
-use Prim.Native.Nat.{ℕ, zero, suc, _^_, _<_}
+use Prim.Native.Nat.{ℕ, zero, suc, _+_, _^_, _<_}
 use mathlib.Core.Path.{_≡_, refl, sym, ap, _∙_}
 use mathlib.Core.Logic.{_≢_, _↔_}
 use mathlib.Core.Bool.{Bool, true, false, not}
@@ -15,23 +15,31 @@ use Rattle.rules.specs.Sizes.{connectionCount, connectionsSize}
 use Rattle.rules.specs.Tables.{isClosed}
 use Rattle.connection_map.specs.Bits.{isSet, withBit}
 use Rattle.connection_map.specs.Maps.{Agrees, mapOfFirst, mapOf, Rebuilt, rebuild}
-use Rattle.connection_map.proofs.Bits.{past-clear, with-exactly, with-fits, same-bits}
+use Rattle.connection_map.proofs.Bits.{past-clear, with-exactly, same-bits}
 
 -- of the first n connections each has its bit, and there are no others
 module _ (cs : List ℕ) where
   first-fits : (n : ℕ) → mapOfFirst cs n < 2 ^ n
   unfolding mapOfFirst
   first-fits zero = omega arith
-  first-fits (suc n) = go (isClosed cs n) (omega (arith, first-fits n, pow-suc 2 n))
+  first-fits (suc n) = go (isClosed cs n) (first-fits n)
     where
-      go : (x : Bool) → mapOfFirst cs n < 2 ^ suc n → (if x then mapOfFirst cs n else withBit (mapOfFirst cs n) n) < 2 ^ suc n
-      go true below = below
-      go false below = with-fits (suc n) n (mapOfFirst cs n) (omega arith) below
+      go : (x : Bool) → mapOfFirst cs n < 2 ^ n → mapOfFirst cs n + (if x then 0 else 2 ^ n) < 2 ^ suc n
+      go true l = omega (arith, pow-suc 2 n)
+      go false l = omega (arith, pow-suc 2 n)
+
+  -- one connection more: its bit was 0
+  pub first-step : (n : ℕ) → mapOfFirst cs (suc n) ≡ (if isClosed cs n then mapOfFirst cs n else withBit (mapOfFirst cs n) n)
+  unfolding mapOfFirst withBit
+  first-step n = rw (past-clear n (mapOfFirst cs n) (first-fits n)) (go (isClosed cs n))
+    where
+      go : (x : Bool) → mapOfFirst cs n + (if x then 0 else 2 ^ n) ≡ (if x then mapOfFirst cs n else mapOfFirst cs n + 2 ^ n)
+      go true = omega arith
+      go false = refl
 
   first-bits : (n k : ℕ) → k < n → isSet (mapOfFirst cs n) k ≡ not (isClosed cs k)
-  unfolding mapOfFirst
   first-bits zero k l = absurd (omega arith)
-  first-bits (suc n) k l = go (isClosed cs n) refl (ℕ-discrete k n) (first-bits n k)
+  first-bits (suc n) k l = rw (first-step n) (go (isClosed cs n) refl (ℕ-discrete k n) (first-bits n k))
     where
       go : (x : Bool) → isClosed cs n ≡ x → Dec (k ≡ n) → (k < n → isSet (mapOfFirst cs n) k ≡ not (isClosed cs k))
           → isSet (if x then mapOfFirst cs n else withBit (mapOfFirst cs n) n) k ≡ not (isClosed cs k)

@@ -22,7 +22,7 @@ pub record Agrees (map : ℕ) (connections : List ℕ) : Type 0 where
 -- of the first n connections
 unfoldable pub mapOfFirst : List ℕ → ℕ → ℕ
 mapOfFirst cs zero = 0
-mapOfFirst cs (suc n) = if isClosed cs n then mapOfFirst cs n else withBit (mapOfFirst cs n) n
+mapOfFirst cs (suc n) = mapOfFirst cs n + (if isClosed cs n then 0 else 2 ^ n)
 
 unfoldable pub mapOf : List ℕ → ℕ
 mapOf cs = mapOfFirst cs connectionCount

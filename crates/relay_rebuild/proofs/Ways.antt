@@ -1,6 +1,6 @@
 -- One more connection, over plain values. Assumes nothing.
 use Prim.Native.Nat.{ℕ, suc, _+_, _≤_, _<_}
-use mathlib.Core.Path.{_≡_, refl, ap, _∙_}
+use mathlib.Core.Path.{_≡_, sym, ap, _∙_}
 use mathlib.Core.List.{List}
 use native.Mathlib.Omega.{arith}
 use Rattle.octets.specs.Octets.{if_then_else_}
@@ -8,12 +8,13 @@ use Rattle.rules.specs.Sizes.{connectionCount}
 use Rattle.rules.specs.Tables.{isClosed}
 use Rattle.connection_map.specs.Bits.{withBit}
 use Rattle.connection_map.specs.Maps.{mapOfFirst, mapOf}
+use Rattle.connection_map.proofs.Rebuilding.{first-step}
 
 pub one-more : (cs : List ℕ) (map next c : ℕ) → map ≡ mapOfFirst cs c → next ≡ (if isClosed cs c then map else withBit map c)
     → next ≡ mapOfFirst cs (c + 1)
 one-more cs map next c m n =
     let e : c + 1 ≡ suc c = omega arith in
-    rw (n, m, e) (unfold mapOfFirst in refl)
+    rw (n, m, e) (sym (first-step cs c))
 
 pub whole : (cs : List ℕ) (map c : ℕ) → c ≤ connectionCount → connectionCount ≤ c → map ≡ mapOfFirst cs c → map ≡ mapOf cs
 unfolding mapOf

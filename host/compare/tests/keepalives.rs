@@ -98,7 +98,7 @@ fn compare(relay: &Relay, connection: usize, now: u64, found: &mut Found) -> Res
     let (tables, call) = (relay.encode(), Call { now, kind });
     let reason = agree::explain(&Proved, &tables, &call)?;
     truth::check(&Proved, &tables, &call, &reason)?;
-    let outcome = relay::agree::call(&Proved, &tables, &call)?;
+    let outcome = relay::agree::call(&Proved, &tables, relay.map(), &call)?;
     keepalives::count(found, relay, &call, connection, &outcome);
     Ok(())
 }

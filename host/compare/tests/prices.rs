@@ -114,7 +114,7 @@ fn make(relay: &Relay, call: &Call, level: u64) -> Result<(Option<(u64, u64)>, R
     let tables = relay.encode();
     let reason = agree_on_reason::explain(&Proved, &tables, call)?;
     truth::check(&Proved, &tables, call, &reason)?;
-    let outcome = agree::call(&Proved, &tables, call)?;
+    let outcome = agree::call(&Proved, &tables, relay.map(), call)?;
     let left = decoded(&outcome.lent.tables()).allowances[0].level;
     assert!([0, 9].contains(&outcome.answer.number), "{:?}", outcome.answer);
     let done = (outcome.answer.number == 0).then(|| (left, cost(call.message(), &outcome.answer)));
@@ -196,7 +196,7 @@ fn free_calls_at_level_0_with_what_they_send() -> Result<(), Difference> {
     for level in [0, 32, LEVEL_LIMIT] {
         (relay.allowances[0].level, relay.allowances[0].updated) = (level, NOW);
         for (call, sent) in &calls {
-            let outcome = agree::call(&Proved, &relay.encode(), call)?;
+            let outcome = agree::call(&Proved, &relay.encode(), relay.map(), call)?;
             assert_eq!((outcome.answer.number, [outcome.answer.reply, outcome.answer.relay]), (0, *sent));
             assert_eq!(decoded(&outcome.lent.tables()).allowances[0], relay.allowances[0]);
             assert_eq!(row_of(&relay, call), None);

@@ -45,9 +45,9 @@ fn calls_of_runs() -> Result<(), Difference> {
 /// Explains each call of a run before it is made, at times with another level, size or length than the run has.
 fn explain_run(calls: &mut Calls, reached: &mut Reached) -> Result<(), Difference> {
     let run = Run::any(calls);
-    let (start, anything) = run.start(calls);
-    let started = relay::agree::call(&Proved, &anything, &start)?.lent.tables();
-    let mut tables = run.first_tables(calls, started);
+    let (start, anything, found) = run.start(calls);
+    let started = relay::agree::call(&Proved, &anything, found, &start)?;
+    let (mut tables, mut map) = (run.first_tables(calls, started.lent.tables()), started.answer.map);
     let mut pending = Pending::default();
     for _ in 0..CALLS_OF_EACH {
         let relay = decoded(&tables);
@@ -55,7 +55,8 @@ fn explain_run(calls: &mut Calls, reached: &mut Reached) -> Result<(), Differenc
         let (varied, mut explained) = (calls.varied(&tables, &relay, &call), call.clone());
         calls.lengthen(&mut explained);
         explain_and_make(reached, &varied, &explained)?;
-        tables = relay::agree::call(&Proved, &tables, &call)?.lent.tables();
+        let outcome = relay::agree::call(&Proved, &tables, run.handed(calls, map), &call)?;
+        (tables, map) = (outcome.lent.tables(), outcome.answer.map);
     }
     Ok(())
 }

@@ -170,7 +170,7 @@ impl Explain for Overlooking {
         };
         let mut call = call.clone();
         (self.0)(&mut relay, &mut call);
-        Second.explain(&call, &mut Lent::new(&relay.encode(), &call))
+        Second.explain(&call, &mut Lent::new(&relay.encode(), 0, &call))
     }
 }
 

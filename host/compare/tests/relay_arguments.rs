@@ -1,11 +1,14 @@
 //! Every function of the relay with every kind of argument, those of one call in every combination: sizes of tables, times,
-//! terms, connection numbers, lengths of buffers, messages and random bytes. Each call of a connection is explained, too.
+//! terms, connection numbers, lengths of buffers, messages and random bytes. Each call of a connection is explained, too, and is
+//! handed a map of any kind; fresh starts are handed one of each.
 
+use compare::amount;
 use compare::difference::Difference;
+use compare::random::Random;
 use compare::reasons::{agree, truth};
 use compare::relay;
 use compare::relay::boundary::{Call, Kind, Proved};
-use compare::relay::terms;
+use compare::relay::{maps, terms};
 use compare::tally::Tally;
 use engine::relay::{BUFFER, RANDOM};
 use model::{Relay, State, StoredTerm, Tables, CONNECTIONS, TIME_LIMIT};
@@ -107,25 +110,55 @@ fn pairs<A: Copy, B: Copy, const M: usize, const N: usize>(
     left.into_iter().flat_map(move |one| right.into_iter().map(move |other| (one, other)))
 }
 
-/// Explains the call and makes it.
-fn compare(answers: &mut Tally, tables: &Tables, call: &Call) -> Result<(), Difference> {
-    let reason = agree::explain(&Proved, tables, call)?;
-    truth::check(&Proved, tables, call, &reason)?;
-    let outcome = relay::agree::call(&Proved, tables, call)?;
-    answers.count(call.name(), outcome.answer.number);
-    Ok(())
+/// The maps for these tables: that which agrees, those that do but for the bit of a connection in each state, of zeros, of ones,
+/// and any.
+fn maps_for(random: &mut Random, tables: &Tables) -> Vec<u64> {
+    let agreeing = maps::agreeing(tables);
+    let but_for_a_bit = [IN_SESSION, SILENT, AWAITING, CLOSED, LAST].map(|connection| agreeing ^ 1 << connection);
+    [&[agreeing, 0, u64::MAX, random.number()], &but_for_a_bit[..]].concat()
+}
+
+/// What calls came to.
+struct Made {
+    random: Random,
+    answers: Tally,
+    maps: maps::Reached,
+}
+
+impl Made {
+    fn new() -> Self {
+        Self { random: amount::random(), answers: Tally::default(), maps: maps::Reached::default() }
+    }
+
+    /// Explains the call and makes it.
+    fn compare(&mut self, tables: &Tables, call: &Call) -> Result<(), Difference> {
+        let reason = agree::explain(&Proved, tables, call)?;
+        truth::check(&Proved, tables, call, &reason)?;
+        let maps = maps_for(&mut self.random, tables);
+        let map = self.random.choice(&maps);
+        let outcome = relay::agree::call(&Proved, tables, map, call)?;
+        self.answers.count(call.name(), outcome.answer.number);
+        self.maps.count(tables, call, &outcome);
+        Ok(())
+    }
+
+    /// Asserts that each call had just these answers, with maps that agree and with others.
+    fn assert_just(&self, answers: &[(&str, &[u32])]) {
+        println!("{}\n{}", self.maps, self.answers);
+        self.answers.assert_just(answers);
+        self.maps.assert_answers(answers);
+    }
 }
 
 #[test]
 fn all_arguments() -> Result<(), Difference> {
-    let (mut answers, tables) = (Tally::default(), tables());
+    let (mut made, tables) = (Made::new(), tables());
     for now in TIMES {
         for kind in NUMBERS.into_iter().flat_map(|connection| [calls(connection), messages_of(connection)].concat()) {
-            compare(&mut answers, &tables, &Call { now, kind })?;
+            made.compare(&tables, &Call { now, kind })?;
         }
     }
-    println!("{answers}");
-    answers.assert_just(&[
+    made.assert_just(&[
         ("open", &[0, 2, 3, 4, 5]),
         ("message", &[0, 2, 3, 4, 5, 6, 7, 8]),
         ("close", &[0, 2, 3, 4, 5]),
@@ -136,35 +169,39 @@ fn all_arguments() -> Result<(), Difference> {
 
 #[test]
 fn tables_of_other_sizes() -> Result<(), Difference> {
-    let mut answers = Tally::default();
+    let mut made = Made::new();
     for tables in of_other_sizes() {
         for now in TIMES {
             for kind in NUMBERS.into_iter().flat_map(calls) {
-                compare(&mut answers, &tables, &Call { now, kind })?;
+                made.compare(&tables, &Call { now, kind })?;
             }
         }
         for kind in messages_of(IN_SESSION) {
-            compare(&mut answers, &tables, &Call { now: CLOCK, kind })?;
+            made.compare(&tables, &Call { now: CLOCK, kind })?;
         }
     }
-    println!("{answers}");
-    answers.assert_just(&["open", "message", "close", "keepalive"].map(|name| (name, &[1][..])));
+    made.assert_just(&["open", "message", "close", "keepalive"].map(|name| (name, &[1][..])));
     Ok(())
 }
 
 #[test]
 fn fresh_starts() -> Result<(), Difference> {
-    let mut reached = terms::Reached::default();
+    let (mut reached, mut reached_maps) = (terms::Reached::default(), maps::Reached::default());
+    let mut random = amount::random();
     for tables in of_other_sizes().into_iter().chain([tables()]) {
         for now in TIMES {
             for term in terms::edges() {
                 let call = Call { now, kind: Kind::Fresh { term } };
-                let answer = relay::agree::call(&Proved, &tables, &call)?.answer;
-                reached.count_start(&tables, &call, &answer);
+                for map in maps_for(&mut random, &tables) {
+                    let outcome = relay::agree::call(&Proved, &tables, map, &call)?;
+                    reached.count_start(&tables, &call, &outcome.answer);
+                    reached_maps.count(&tables, &call, &outcome);
+                }
             }
         }
     }
-    println!("{reached}");
+    println!("{reached}\n{reached_maps}");
     reached.assert_starts();
+    reached_maps.assert_answers(&[("fresh", &[0, 1, 2, 6])]);
     Ok(())
 }

@@ -5,7 +5,7 @@ use compare::relay::boundary::Proved;
 use compare::relay::calls::Calls;
 use compare::relay::compared::CALLS;
 use compare::relay::reached::Reached;
-use compare::relay::{agree, keepalives, leases, single};
+use compare::relay::{agree, keepalives, leases, maps, single};
 use compare::{amount, forms};
 
 #[test]
@@ -16,7 +16,8 @@ fn calls_on_tables_from_anywhere() -> Result<(), Difference> {
     let mut calls = Calls { random: &mut random, pool: &pool };
     single::calls(&mut calls, amount::rounds(CALLS), |calls, tables, mut call| {
         calls.start_instead(&mut call);
-        let outcome = agree::call(&Proved, tables, &call)?;
+        let map = maps::any(calls.random, tables);
+        let outcome = agree::call(&Proved, tables, map, &call)?;
         reached.count(tables, &call, &outcome);
         Ok(())
     })?;

@@ -150,7 +150,7 @@ fn wrong_relays_are_noticed() {
 fn send(now: u64, length: usize, number: u32) -> Entry {
     let (relay, destination) = if number == 0 { (length as u32, 17) } else { (0, NOBODY) };
     let price = Some(32 + 2 * length as u64);
-    let answer = Answer { number, reply: 0, relay, destination, disconnect: 0 };
+    let answer = Answer { number, reply: 0, relay, destination, disconnect: 0, map: 0 };
     Entry { now, partner: Some(2), charged: true, price, message: vec![11; length], answer }
 }
 

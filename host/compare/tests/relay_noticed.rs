@@ -15,12 +15,14 @@ struct Spoiled {
 
 const UNSPOILED: Spoiled = Spoiled { answer: |_| {}, lent: |_| {} };
 
-const SPOILED_ANSWERS: [fn(&mut Answer); 5] = [
+const SPOILED_ANSWERS: [fn(&mut Answer); 7] = [
     |answer| answer.number ^= 9,
     |answer| answer.reply ^= 1,
     |answer| answer.relay ^= 1,
     |answer| answer.destination ^= 1,
     |answer| answer.disconnect ^= 1,
+    |answer| answer.map ^= 1,
+    |answer| answer.map ^= 1 << 63,
 ];
 
 impl Boundary for Spoiled {
@@ -31,6 +33,9 @@ impl Boundary for Spoiled {
         answer
     }
 }
+
+/// The map that agrees with the tables here: connection 0 is open.
+const MAP: u64 = 1;
 
 /// A keepalive of an open connection, which is accepted, and one that comes too late.
 fn accepted_and_refused() -> (Tables, [Call; 2]) {
@@ -60,9 +65,9 @@ fn a_wrong_answer() {
     let (tables, calls) = accepted_and_refused();
     let messages = calls.map(|call| (tables.clone(), call));
     for (tables, call) in messages.into_iter().chain(keepalive_calls()) {
-        assert!(agree::call(&UNSPOILED, &tables, &call).is_ok());
+        assert!(agree::call(&UNSPOILED, &tables, MAP, &call).is_ok());
         for answer in SPOILED_ANSWERS {
-            assert!(agree::call(&Spoiled { answer, ..UNSPOILED }, &tables, &call).is_err());
+            assert!(agree::call(&Spoiled { answer, ..UNSPOILED }, &tables, MAP, &call).is_err());
         }
     }
 }
@@ -72,7 +77,7 @@ fn a_wrong_byte_of_anything_lent() {
     let (tables, calls) = accepted_and_refused();
     for call in calls {
         for lent in SPOILED_BYTES {
-            assert!(agree::call(&Spoiled { lent, ..UNSPOILED }, &tables, &call).is_err());
+            assert!(agree::call(&Spoiled { lent, ..UNSPOILED }, &tables, MAP, &call).is_err());
         }
     }
 }

@@ -20,6 +20,8 @@ const RECEIVE: u8 = 12;
 
 const CALLER: u64 = 0;
 const HOLDER: u64 = 1;
+/// The map with these two.
+const MAP: u64 = 1 << CALLER | 1 << HOLDER;
 const START: u64 = 1_000;
 /// Fills any allowance.
 const REFILL_SECONDS: u64 = 4;
@@ -106,6 +108,7 @@ impl Reached {
 /// A relay with a session between two connections.
 struct Session {
     now: u64,
+    map: u64,
     connections: Vec<u8>,
     leases: Vec<u8>,
     allowances: Vec<u8>,
@@ -116,11 +119,13 @@ impl Session {
     fn new() -> Self {
         let [connections, leases, allowances] =
             [relay::CONNECTIONS, relay::LEASES, relay::ALLOWANCES].map(|size| vec![0; size]);
-        let mut session = Self { now: START, connections, leases, allowances, reply: [0; BUFFER] };
-        assert_eq!(relay::fresh(session.tables(), START, 0).number, 0);
+        let mut session = Self { now: START, map: 0, connections, leases, allowances, reply: [0; BUFFER] };
+        assert_eq!(relay::fresh(session.tables(), 0, START, 0).number, 0);
         for connection in [CALLER, HOLDER] {
-            let now = session.now;
-            assert_eq!(relay::open(session.tables(), now, connection, &mut [0; BUFFER]).number, 0);
+            let (now, map) = (session.now, session.map);
+            let answer = relay::open(session.tables(), map, now, connection, &mut [0; BUFFER]);
+            assert_eq!(answer.number, 0);
+            session.map = answer.map;
             session.prepare(connection, Message::VersionAnswer { ok: 1 }, 0);
         }
         session.prepare(HOLDER, Message::LeaseRequest, 38);
@@ -141,8 +146,8 @@ impl Session {
 
     fn message(&mut self, connection: u64, message: &[u8], buffer: &mut [u8]) -> Answer {
         self.now += REFILL_SECONDS;
-        let (now, mut reply) = (self.now, self.reply);
-        let answer = relay::message(self.tables(), now, connection, message, &[7; RANDOM], &mut reply, buffer);
+        let (now, map, mut reply) = (self.now, self.map, self.reply);
+        let answer = relay::message(self.tables(), map, now, connection, message, &[7; RANDOM], &mut reply, buffer);
         self.reply = reply;
         answer
     }
@@ -155,7 +160,7 @@ impl Session {
 
 /// What a send of so many bytes is answered with, given a relay buffer of this length.
 fn expected_answer(length: usize, room: usize) -> Answer {
-    let nothing = Answer { number: 0, reply: 0, relay: 0, destination: NOBODY, disconnect: 0 };
+    let nothing = Answer { number: 0, reply: 0, relay: 0, destination: NOBODY, disconnect: 0, map: MAP };
     if room < BUFFER.max(1 + length) {
         Answer { number: 5, ..nothing }
     } else if length > DATA_LIMIT {

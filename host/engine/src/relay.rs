@@ -36,6 +36,13 @@ pub struct Answer {
 // host/c/crondelith_check.c has the same numbers about the header's struct.
 const _: () = assert!(size_of::<Answer>() == 32 && align_of::<Answer>() == 8 && offset_of!(Answer, map) == 24);
 
+/// The numbers in the order above, the map apart.
+impl From<([u32; 5], u64)> for Answer {
+    fn from(([number, reply, relay, destination, disconnect], map): ([u32; 5], u64)) -> Self {
+        Self { number, reply, relay, destination, disconnect, map }
+    }
+}
+
 /// `crondelith_partner_connections`.
 #[repr(C)]
 #[derive(Clone, Copy, Debug, PartialEq, Eq)]
@@ -110,6 +117,7 @@ pub fn open(tables: Tables, map: u64, now: u64, connection: u64, reply: &mut [u8
 
 /// Takes a message from a connection.
 #[inline]
+#[allow(clippy::too_many_arguments, reason = "they are those of the C function")]
 pub fn message(
     tables: Tables,
     map: u64,

@@ -5,6 +5,7 @@ use codec::{encode, Message};
 
 use crate::checks::{check, check_fresh, Action, Call, Kind, Passed, Refusal};
 use crate::keepalives::Due;
+use crate::maps::{Map, FRESH_MAP};
 use crate::records::{Connection, Session, State};
 use crate::relay::{Relay, Tables};
 use crate::requests::{RandomBytes, Request};
@@ -22,12 +23,15 @@ pub struct Answer {
     pub destination: usize,
     /// The scope's hang-up.
     pub disconnect: bool,
+    /// The map of the connections afterwards.
+    pub map: u64,
 }
 
 impl Answer {
-    /// The five numbers in the order above, to compare with another relay's.
-    pub fn numbers(self) -> [u32; 5] {
-        [self.number, self.reply as u32, self.relay as u32, self.destination as u32, self.disconnect.into()]
+    /// The numbers in the order above, the map apart, as include/crondelith.h has them.
+    pub fn numbers(self) -> ([u32; 5], u64) {
+        let Self { number, reply, relay, destination, disconnect, map } = self;
+        ([number, reply as u32, relay as u32, destination as u32, disconnect.into()], map)
     }
 }
 
@@ -59,20 +63,26 @@ fn bytes(message: Message) -> Vec<u8> {
 }
 
 /// Makes a fresh relay, whose leases last so many seconds; 0 for the usual term.
-pub fn fresh(tables: &mut Tables, now: u64, term: u64) -> Answer {
-    let done = check_fresh(tables, now, term).map(|term| *tables = Relay::fresh(now, term).encode());
-    deliver(done.map(|()| Sent::default()), &mut [], &mut [])
+pub fn fresh(tables: &mut Tables, mut map: u64, now: u64, term: u64) -> Answer {
+    let done = check_fresh(tables, now, term).map(|term| {
+        *tables = Relay::fresh(now, term).encode();
+        map = FRESH_MAP;
+        Sent::default()
+    });
+    deliver(done, map, &mut [], &mut [])
 }
 
 /// Opens a connection.
-pub fn open(tables: &mut Tables, now: u64, connection: u64, reply: &mut [u8]) -> Answer {
+pub fn open(tables: &mut Tables, mut map: u64, now: u64, connection: u64, reply: &mut [u8]) -> Answer {
     let kind = Kind::Open { reply_length: reply.len() as u64 };
-    deliver(attempt(tables, Call { now, connection, kind }), reply, &mut [])
+    deliver(attempt(tables, &mut map, Call { now, connection, kind }), map, reply, &mut [])
 }
 
 /// Takes a message from a connection.
+#[allow(clippy::too_many_arguments, reason = "these are what the scope lends a message")]
 pub fn message(
     tables: &mut Tables,
+    mut map: u64,
     now: u64,
     connection: u64,
     message: &[u8],
@@ -82,31 +92,39 @@ pub fn message(
 ) -> Answer {
     let (reply_length, relay_length) = (reply.len() as u64, relay.len() as u64);
     let kind = Kind::Message { message, random, reply_length, relay_length };
-    deliver(attempt(tables, Call { now, connection, kind }), reply, relay)
+    deliver(attempt(tables, &mut map, Call { now, connection, kind }), map, reply, relay)
 }
 
 /// Closes a connection.
-pub fn close(tables: &mut Tables, now: u64, connection: u64, relay: &mut [u8]) -> Answer {
+pub fn close(tables: &mut Tables, mut map: u64, now: u64, connection: u64, relay: &mut [u8]) -> Answer {
     let kind = Kind::Close { relay_length: relay.len() as u64 };
-    deliver(attempt(tables, Call { now, connection, kind }), &mut [], relay)
+    deliver(attempt(tables, &mut map, Call { now, connection, kind }), map, &mut [], relay)
 }
 
 /// Finds out whether a connection is dead.
-pub fn keepalive(tables: &mut Tables, now: u64, connection: u64, reply: &mut [u8], relay: &mut [u8]) -> Answer {
+pub fn keepalive(
+    tables: &mut Tables,
+    mut map: u64,
+    now: u64,
+    connection: u64,
+    reply: &mut [u8],
+    relay: &mut [u8],
+) -> Answer {
     let kind = Kind::Keepalive { reply_length: reply.len() as u64, relay_length: relay.len() as u64 };
-    deliver(attempt(tables, Call { now, connection, kind }), reply, relay)
+    deliver(attempt(tables, &mut map, Call { now, connection, kind }), map, reply, relay)
 }
 
-/// Makes a call on a copy of the relay, which becomes the relay if the call is accepted.
-fn attempt(tables: &mut Tables, call: Call) -> Result<Sent, Refusal> {
-    let (relay, passed) = check(tables, &call)?;
-    let (relay, sent) = relay.plan(&passed).carry_out(&passed)?;
-    *tables = relay.encode();
+/// Makes a call on a copy of the relay, which becomes the relay if the call is accepted; then the map follows.
+fn attempt(tables: &mut Tables, map: &mut u64, call: Call) -> Result<Sent, Refusal> {
+    let (before, passed) = check(tables, &call)?;
+    let (after, sent) = before.plan(&passed).carry_out(&passed)?;
+    *map = Map::decode(*map).after_call(&before, &after).encode();
+    *tables = after.encode();
     Ok(sent)
 }
 
 /// "each tray starts with its message, and its further bytes stay"; "Refusals 1 to 9 report 0, 0, 255, no".
-fn deliver(done: Result<Sent, Refusal>, reply: &mut [u8], relay: &mut [u8]) -> Answer {
+fn deliver(done: Result<Sent, Refusal>, map: u64, reply: &mut [u8], relay: &mut [u8]) -> Answer {
     let (number, sent) = match done {
         Ok(sent) => (0, sent),
         Err(refusal) => (refusal as u32, Sent::default()),
@@ -114,7 +132,7 @@ fn deliver(done: Result<Sent, Refusal>, reply: &mut [u8], relay: &mut [u8]) -> A
     let (destination, relayed) = sent.relay.unwrap_or((NOBODY.into(), Vec::new()));
     reply[..sent.reply.len()].copy_from_slice(&sent.reply);
     relay[..relayed.len()].copy_from_slice(&relayed);
-    Answer { number, reply: sent.reply.len(), relay: relayed.len(), destination, disconnect: sent.disconnect }
+    Answer { number, reply: sent.reply.len(), relay: relayed.len(), destination, disconnect: sent.disconnect, map }
 }
 
 impl Relay {

@@ -1,12 +1,13 @@
 //! The relay, written from the project's scope and requests alone: a second implementation that shares nothing with the
 //! proved one but the papers. The three tables are decoded to typed records ([`Relay`]), a call acts on these, and what
-//! it leaves is encoded again if the call is accepted. [`reasons`] says of a call, without making it, why it is turned
+//! it leaves is encoded again if the call is accepted, with the map beside them. [`reasons`] says of a call, without making it, why it is turned
 //! away or what decides it.
 
 mod calls;
 mod checks;
 mod keepalives;
 mod leases;
+mod maps;
 mod plan;
 pub mod reasons;
 mod records;
@@ -20,6 +21,7 @@ pub use calls::{close, fresh, keepalive, message, open, Answer};
 pub use checks::Refusal;
 pub use keepalives::{Due, ANSWER_TIMEOUT, KEEPALIVE_TIMEOUT};
 pub use leases::{Condition, Offer};
+pub use maps::{connections_of, rebuild, PartnerConnections, Rebuilt};
 pub use plan::BASE_COST;
 pub use records::{Allowance, Common, Connection, Lease, Session, State};
 pub use relay::{partner_of, partner_of_row, Relay, Tables, CONNECTIONS, LEASES, PARTNERS};

@@ -100,7 +100,7 @@ fn rows(partner: usize) -> Range<usize> {
     each * partner..each * (partner + 1)
 }
 
-fn decode_all<R: Record>(table: &[u8], records: usize) -> Option<Vec<R>> {
+pub(crate) fn decode_all<R: Record>(table: &[u8], records: usize) -> Option<Vec<R>> {
     (table.len() == records * R::LENGTH).then(|| table.chunks_exact(R::LENGTH).map(R::decode).collect())
 }
 

@@ -10,7 +10,8 @@ use crate::relay::boundary::{Call, Lent, Second};
 
 /// The reason on which the two agree. All that was lent must be as it was.
 pub fn explain(subject: &impl Explain, tables: &Tables, call: &Call) -> Result<Reason, Difference> {
-    let before = Lent::new(tables, call);
+    // Explanations aren't handed the map.
+    let before = Lent::new(tables, 0, call);
     let mut lent = before.clone();
     let reason = subject.explain(call, &mut lent);
     let described = || format!("explaining {}", describe(call, tables));

@@ -6,12 +6,13 @@ use model::{partner_of, Tables};
 use crate::difference::{same, Difference};
 use crate::relay::agree::{self, describe, Outcome};
 use crate::relay::boundary::{Boundary, Call};
+use crate::relay::maps::agreeing;
 use crate::relay::prices::cost;
 use crate::relay::runs::decoded;
 
 /// Makes the call of the relay on copies of the tables, and compares what it does with the reason.
 pub fn check(relay: &impl Boundary, tables: &Tables, call: &Call, reason: &Reason) -> Result<(), Difference> {
-    let outcome = agree::call(relay, tables, call)?;
+    let outcome = agree::call(relay, tables, agreeing(tables), call)?;
     let described = || format!("{reason:?} of {}", describe(call, tables));
     same(described, &reason.check, &outcome.answer.number)?;
     check_decision(described, reason, outcome.reply())?;
@@ -70,7 +71,7 @@ fn check_shortfall(relay: &impl Boundary, tables: &Tables, call: &Call, headroom
         let mut richer = decoded(tables);
         let level = &mut richer.allowances[partner].level;
         *level = level.saturating_add(more);
-        let answer = agree::call(relay, &richer.encode(), call)?.answer;
+        let answer = agree::call(relay, &richer.encode(), richer.map(), call)?.answer;
         let described = || format!("with {more} units more {}", describe(call, tables));
         same(described, &answer.number, &number)?;
         if answer.number == 0 {

@@ -1,10 +1,11 @@
-//! One call made of both relays.
+//! One call made of both relays, or one question about a map or a table.
 
-use engine::relay::Answer;
+use engine::relay::{Answer, PartnerConnections, Rebuilt};
 use model::Tables;
 
 use super::boundary::{Boundary, Call, Kind, Lent, Second};
 use crate::difference::{same, same_bytes, shown, Difference};
+use crate::guarded::Guarded;
 
 /// The answer to a call, and all that was lent, afterwards.
 pub struct Outcome {
@@ -24,20 +25,39 @@ impl Outcome {
     }
 }
 
-/// Makes the call on copies of the tables, and compares the answer and every byte that was lent. A refused call must
-/// also have changed none.
-pub fn call(subject: &impl Boundary, tables: &Tables, call: &Call) -> Result<Outcome, Difference> {
-    let before = Lent::new(tables, call);
+/// Makes the call on copies of the tables, and compares the answer, with the map in it, and every byte that was lent. A
+/// refused call must also have changed none, and have given back the map.
+pub fn call(subject: &impl Boundary, tables: &Tables, map: u64, call: &Call) -> Result<Outcome, Difference> {
+    let before = Lent::new(tables, map, call);
     let (mut ours, mut expected) = (before.clone(), before.clone());
     let expected_answer = Second.call(call, &mut expected);
     let answer = subject.call(call, &mut ours);
-    let described = || describe(call, tables);
+    let described = || format!("with map {map:#x} {}", describe(call, tables));
     same(described, &answer, &expected_answer)?;
     same_lent(described, &ours, &expected)?;
     if answer.number != 0 {
         same_lent(described, &ours, &before)?;
+        same(described, &answer.map, &map)?;
     }
     Ok(Outcome { answer, lent: ours })
+}
+
+/// What both find the map to say of the partner.
+pub fn connections_of(subject: &impl Boundary, map: u64, partner: u64) -> Result<PartnerConnections, Difference> {
+    let found = subject.connections_of(map, partner);
+    same(|| format!("partner {partner} in map {map:#x}"), &found, &Second.connections_of(map, partner))?;
+    Ok(found)
+}
+
+/// The map that both find the connection table to have, which must stay as it was.
+pub fn rebuild(subject: &impl Boundary, connections: &[u8]) -> Result<Rebuilt, Difference> {
+    let before = Guarded::holding(connections);
+    let lent = before.clone();
+    let rebuilt = subject.rebuild(lent.lend());
+    let described = || format!("the map of {connections:?}");
+    same(described, &rebuilt, &Second.rebuild(connections))?;
+    same_bytes(described, &lent, &before)?;
+    Ok(rebuilt)
 }
 
 pub(crate) fn same_lent(call: impl Fn() -> String, ours: &Lent, expected: &Lent) -> Result<(), Difference> {

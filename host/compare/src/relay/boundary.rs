@@ -1,6 +1,6 @@
 //! The relay's C boundary as a trait, and the two relays behind it.
 
-use engine::relay::{self, Answer};
+use engine::relay::{self, Answer, PartnerConnections, Rebuilt};
 use model::Tables;
 
 use crate::guarded::Guarded;
@@ -8,7 +8,7 @@ use crate::guarded::Guarded;
 /// No buffer is lent that is longer; every message is shorter.
 const LONGEST_BUFFER: usize = 70_000;
 
-/// A call, with all that it brings but the tables. Of buffers that are only written it has the lengths.
+/// A call, with all that it brings but the tables and the map. Of buffers that are only written it has the lengths.
 #[derive(Clone, Debug)]
 pub struct Call {
     pub now: u64,
@@ -110,9 +110,10 @@ impl Call {
     }
 }
 
-/// Everything that a call is lent, each between guard bytes.
+/// Everything that a call is lent, each between guard bytes, and the map that it is handed.
 #[derive(Clone)]
 pub struct Lent {
+    pub map: u64,
     pub connections: Guarded,
     pub leases: Guarded,
     pub allowances: Guarded,
@@ -124,9 +125,10 @@ pub struct Lent {
 
 impl Lent {
     /// A buffer of a length beyond memory is lent as long as one can be: a call only asks whether it is too short.
-    pub fn new(tables: &Tables, call: &Call) -> Self {
+    pub fn new(tables: &Tables, map: u64, call: &Call) -> Self {
         let [reply, relay] = call.rooms().map(|room| room.min(LONGEST_BUFFER));
         Self {
+            map,
             connections: Guarded::holding(&tables.connections),
             leases: Guarded::holding(&tables.leases),
             allowances: Guarded::holding(&tables.allowances),
@@ -151,7 +153,7 @@ impl Lent {
         self.allowances.lend_mut().copy_from_slice(&tables.allowances);
     }
 
-    /// All that is lent, with names for it.
+    /// All that is lent for reading or writing, with names for it.
     pub fn named(&self) -> [(&'static str, &Guarded); 7] {
         [
             ("connections", &self.connections),
@@ -168,6 +170,18 @@ impl Lent {
 pub trait Boundary {
     /// Makes the call with what it is lent, which [`Lent::new`] has made for it.
     fn call(&self, call: &Call, lent: &mut Lent) -> Answer;
+
+    /// What the map says of a partner: as the second implementation does, unless a relay has its own way.
+    fn connections_of(&self, map: u64, partner: u64) -> PartnerConnections {
+        let [number, connections, lowest] = model::connections_of(map, partner).numbers();
+        PartnerConnections { number, connections, lowest }
+    }
+
+    /// The map of a connection table, likewise.
+    fn rebuild(&self, connections: &[u8]) -> Rebuilt {
+        let model::Rebuilt { number, map } = model::rebuild(connections);
+        Rebuilt { number, map }
+    }
 }
 
 /// The proved relay: the archive.
@@ -182,15 +196,24 @@ impl Boundary for Proved {
         };
         let (message, random) = (lent.message.lend(), lent.random.lend());
         let (reply, relay) = (lent.reply.lend_mut(), lent.relay.lend_mut());
+        let (map, now) = (lent.map, call.now);
         match call.kind {
-            Kind::Fresh { term } => relay::fresh(tables, call.now, term),
-            Kind::Open { connection, .. } => relay::open(tables, call.now, connection, reply),
+            Kind::Fresh { term } => relay::fresh(tables, map, now, term),
+            Kind::Open { connection, .. } => relay::open(tables, map, now, connection, reply),
             Kind::Message { connection, .. } => {
-                relay::message(tables, call.now, connection, message, random, reply, relay)
+                relay::message(tables, map, now, connection, message, random, reply, relay)
             }
-            Kind::Close { connection, .. } => relay::close(tables, call.now, connection, relay),
-            Kind::Keepalive { connection, .. } => relay::keepalive(tables, call.now, connection, reply, relay),
+            Kind::Close { connection, .. } => relay::close(tables, map, now, connection, relay),
+            Kind::Keepalive { connection, .. } => relay::keepalive(tables, map, now, connection, reply, relay),
         }
+    }
+
+    fn connections_of(&self, map: u64, partner: u64) -> PartnerConnections {
+        relay::connections_of(map, partner)
+    }
+
+    fn rebuild(&self, connections: &[u8]) -> Rebuilt {
+        relay::rebuild(connections)
     }
 }
 
@@ -202,14 +225,15 @@ impl Boundary for Second {
         let mut tables = lent.tables();
         let (message, random) = (lent.message.lend(), lent.random.lend());
         let (reply, relay) = (lent.reply.lend_mut(), lent.relay.lend_mut());
+        let (map, now) = (lent.map, call.now);
         let answer = match call.kind {
-            Kind::Fresh { term } => model::fresh(&mut tables, call.now, term),
-            Kind::Open { connection, .. } => model::open(&mut tables, call.now, connection, reply),
+            Kind::Fresh { term } => model::fresh(&mut tables, map, now, term),
+            Kind::Open { connection, .. } => model::open(&mut tables, map, now, connection, reply),
             Kind::Message { connection, .. } => {
-                model::message(&mut tables, call.now, connection, message, random, reply, relay)
+                model::message(&mut tables, map, now, connection, message, random, reply, relay)
             }
-            Kind::Close { connection, .. } => model::close(&mut tables, call.now, connection, relay),
-            Kind::Keepalive { connection, .. } => model::keepalive(&mut tables, call.now, connection, reply, relay),
+            Kind::Close { connection, .. } => model::close(&mut tables, map, now, connection, relay),
+            Kind::Keepalive { connection, .. } => model::keepalive(&mut tables, map, now, connection, reply, relay),
         };
         lent.set_tables(&tables);
         Answer::from(answer.numbers())

@@ -1,5 +1,5 @@
 //! The proved relay and the second one: calls to make of both, what they reach, and monitors of the allowances, of dead
-//! connections and of the term.
+//! connections, of the term and of the map.
 
 pub mod agree;
 pub mod boundary;
@@ -8,11 +8,14 @@ pub mod compared;
 pub mod connection_monitor;
 pub mod keepalives;
 pub mod leases;
+pub mod map_monitor;
+pub mod maps;
 mod mistakes;
 pub mod monitor;
 pub mod noticed;
 pub mod prices;
 pub mod reached;
+pub mod read_maps;
 pub mod runs;
 pub mod single;
 pub mod spoiled;

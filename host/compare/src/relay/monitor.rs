@@ -61,7 +61,7 @@ fn passes(relay: &Relay, call: &Call) -> bool {
     for allowance in &mut unspent.allowances {
         allowance.level = LEVEL_LIMIT;
     }
-    Second.call(call, &mut Lent::new(&unspent.encode(), call)).number == 0
+    Second.call(call, &mut Lent::new(&unspent.encode(), unspent.map(), call)).number == 0
 }
 
 /// What is wrong with a history.

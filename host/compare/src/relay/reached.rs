@@ -7,7 +7,7 @@ use model::{Relay, Request, Tables, PARTNERS};
 use super::agree::Outcome;
 use super::boundary::{Call, Kind};
 use super::leases::{self, Asked, LastHolders};
-use super::{keepalives, prices, terms};
+use super::{keepalives, maps, prices, terms};
 use crate::tally::{Found, Outcomes, Tally};
 
 /// The name under which each status of an establish request is counted.
@@ -44,6 +44,8 @@ pub struct Reached {
     pub prices: prices::Reached,
     /// What concerns the term.
     pub terms: terms::Reached,
+    /// What concerns the map.
+    maps: maps::Reached,
 }
 
 impl Reached {
@@ -51,6 +53,7 @@ impl Reached {
     pub fn count(&mut self, tables: &Tables, call: &Call, outcome: &Outcome) {
         self.answers.count(call.name(), outcome.answer.number);
         self.terms.count_start(tables, call, &outcome.answer);
+        self.maps.count(tables, call, outcome);
         if let (Some(relay), Some(caller)) = (Relay::decode(tables), call.caller()) {
             keepalives::count(&mut self.keepalives, &relay, call, caller, outcome);
             self.prices.count(&relay, call, &outcome.answer);
@@ -68,8 +71,9 @@ impl Reached {
         }
     }
 
-    /// Asserts that each function had just these answers, and that all effects were reached, these and these outcomes of
-    /// keepalives among them, every price, and leases of every term.
+    /// Asserts that each function had just these answers, with maps that agree and that don't, and that all effects were
+    /// reached, these and these outcomes of keepalives among them, every price, leases of every term, and all that concerns the
+    /// map.
     pub fn assert_all(&self, answers: &[(&str, &[u32])], further: &[&str], keepalives: &[Outcomes]) {
         println!("{self}");
         self.answers.assert_just(answers);
@@ -82,13 +86,15 @@ impl Reached {
         self.keepalives.assert_reached(keepalives);
         self.prices.assert_rows();
         self.terms.assert_leases();
+        self.maps.assert_answers(answers);
+        self.maps.assert_bits();
     }
 }
 
 impl fmt::Display for Reached {
     fn fmt(&self, out: &mut fmt::Formatter) -> fmt::Result {
         self.effects.write_rows(out)?;
-        writeln!(out, "\n{}\n{}", self.keepalives, self.terms)?;
+        writeln!(out, "\n{}\n{}\n{}", self.keepalives, self.terms, self.maps)?;
         self.answers.fmt(out)
     }
 }

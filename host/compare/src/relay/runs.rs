@@ -5,13 +5,15 @@ use std::collections::HashSet;
 use engine::relay::{Answer, ALLOWANCES, CONNECTIONS, LEASES};
 use model::{partner_of_row, Lease, Relay, StoredTerm, Tables, NOBODY, PARTNERS, TIME_LIMIT};
 
-use super::agree::Outcome;
+use super::agree::{self, Outcome};
 use super::boundary::{Boundary, Call, Kind, Lent};
 use super::calls::{connections_of, Calls, LONG_DATA, SHORT_DATA};
 use super::connection_monitor::ConnectionMonitor;
+use super::map_monitor::MapMonitor;
 use super::monitor::{Entry, Fault, Monitor};
 use super::term_monitor::TermMonitor;
-use super::{prices, terms};
+use super::{maps, prices, terms};
+use crate::difference::{same, Difference};
 use crate::random::Random;
 use crate::tally::Tally;
 
@@ -62,6 +64,8 @@ pub struct Run {
     endings: bool,
     /// So many partners, from the first, make calls; the fewer, the more each has of them.
     partners: usize,
+    /// Whether calls are at times handed another map than the one before gave back, so that it disagrees with the tables.
+    wrong_maps: bool,
 }
 
 impl Run {
@@ -78,14 +82,17 @@ impl Run {
             keepalives: random.one_in(2),
             endings: random.one_in(2),
             partners,
+            wrong_maps: random.one_in(2),
         }
     }
 
-    /// The fresh start, and tables with any bytes to make it on.
-    pub fn start(&self, calls: &mut Calls) -> (Call, Tables) {
+    /// The fresh start, and tables with any bytes and a map to make it on.
+    pub fn start(&self, calls: &mut Calls) -> (Call, Tables, u64) {
         let tables = [CONNECTIONS, LEASES, ALLOWANCES].map(|length| calls.random.part(calls.pool, length).to_vec());
         let [connections, leases, allowances] = tables;
-        (Call { now: self.start, kind: Kind::Fresh { term: self.term } }, Tables { connections, leases, allowances })
+        let tables = Tables { connections, leases, allowances };
+        let map = maps::any(calls.random, &tables);
+        (Call { now: self.start, kind: Kind::Fresh { term: self.term } }, tables, map)
     }
 
     /// The tables that the run goes on with, given those that its start left: these, or with the number that is found there
@@ -103,6 +110,35 @@ impl Run {
             }
         }
         relay.encode()
+    }
+
+    /// The map that the next call is handed, given the one that the call before gave back: this, or at times another one,
+    /// mostly by the bit of a connection.
+    pub fn handed(&self, calls: &mut Calls, map: u64) -> u64 {
+        let random = &mut *calls.random;
+        if !self.wrong_maps || !random.one_in(8) {
+            return map;
+        }
+        let others = [0, u64::MAX, random.number()];
+        let connection = random.below(self.partners * model::CONNECTIONS / PARTNERS);
+        if random.one_in(8) {
+            random.choice(&others)
+        } else {
+            map ^ 1 << connection
+        }
+    }
+
+    /// Compares what both relays find after a run: in its map of each partner, and as the map of its tables, which it must be
+    /// if each call was handed the one that the call before gave back.
+    pub fn compare_end(&self, subject: &impl Boundary, tables: &Tables, map: u64) -> Result<(), Difference> {
+        let rebuilt = agree::rebuild(subject, &tables.connections)?.map;
+        if !self.wrong_maps {
+            same(|| format!("the map after a run to {tables:?}"), &map, &rebuilt)?;
+        }
+        maps::partners().try_for_each(|partner| {
+            agree::connections_of(subject, rebuilt, partner)?;
+            agree::connections_of(subject, map, partner).map(drop)
+        })
     }
 
     /// What the monitor of the term knows of how the run begins.
@@ -143,30 +179,30 @@ impl Run {
     }
 
     /// Makes the fresh start and then so many calls of one relay by itself, each shown with the relay before it. A run is one
-    /// whose start is accepted.
+    /// whose start is accepted, and "a fresh relay's map is 0". Gives the tables that it ends with.
     fn alone(
         &self,
         subject: &impl Boundary,
         calls: &mut Calls,
         length: usize,
         mut show: impl FnMut(&Relay, &Call, &Outcome) -> Result<(), Fault>,
-    ) -> Result<(), Fault> {
-        let (start, anything) = self.start(calls);
-        let started = make(subject, &anything, &start);
-        if started.answer.number != 0 {
+    ) -> Result<Tables, Fault> {
+        let (start, anything, found) = self.start(calls);
+        let started = make(subject, &anything, found, &start);
+        if (started.answer.number, started.answer.map) != (0, 0) {
             return Err(Fault(format!("{start:?}: {:?}", started.answer)));
         }
-        let mut tables = self.first_tables(calls, started.lent.tables());
+        let (mut tables, mut map) = (self.first_tables(calls, started.lent.tables()), started.answer.map);
         let mut pending = Pending::default();
         for _ in 0..length {
             let before = decoded(&tables);
             let call = self.next(calls, &before, &mut pending);
-            let outcome = make(subject, &tables, &call);
+            let outcome = make(subject, &tables, self.handed(calls, map), &call);
             show(&before, &call, &outcome)?;
-            tables = outcome.lent.tables();
+            (tables, map) = (outcome.lent.tables(), outcome.answer.map);
             pending.note(calls, call, &outcome.answer);
         }
-        Ok(())
+        Ok(tables)
     }
 
     /// At times a call that this kind of run has more of than others.
@@ -222,8 +258,8 @@ fn leave_lease(random: &mut Random, row: usize, lease: &mut Lease, expiry: u64) 
 }
 
 /// Makes a call of one relay by itself.
-pub fn make(subject: &impl Boundary, tables: &Tables, call: &Call) -> Outcome {
-    let mut lent = Lent::new(tables, call);
+pub fn make(subject: &impl Boundary, tables: &Tables, map: u64, call: &Call) -> Outcome {
+    let mut lent = Lent::new(tables, map, call);
     Outcome { answer: subject.call(call, &mut lent), lent }
 }
 
@@ -263,14 +299,23 @@ pub fn follow(subject: &impl Boundary, calls: &mut Calls, length: usize, followe
 /// Makes a run of one relay by itself, followed by the monitor of dead connections.
 pub fn follow_connections(subject: &impl Boundary, calls: &mut Calls, length: usize) -> Result<(), Fault> {
     let mut monitor = ConnectionMonitor::default();
-    Run::any(calls).alone(subject, calls, length, |_, call, outcome| monitor.record(call, &outcome.answer))
+    let run = Run::any(calls);
+    run.alone(subject, calls, length, |_, call, outcome| monitor.record(call, &outcome.answer)).map(drop)
 }
 
 /// Makes a run of one relay by itself, followed by the monitor of the term.
 pub fn follow_terms(subject: &impl Boundary, calls: &mut Calls, length: usize) -> Result<(), Fault> {
     let run = Run::any(calls);
     let mut monitor = run.term_monitor();
-    run.alone(subject, calls, length, |_, call, outcome| monitor.record(call, outcome))
+    run.alone(subject, calls, length, |_, call, outcome| monitor.record(call, outcome)).map(drop)
+}
+
+/// Makes a run of one relay by itself, followed by the monitor of the map.
+pub fn follow_maps(subject: &impl Boundary, calls: &mut Calls, length: usize) -> Result<(), Fault> {
+    let mut monitor = MapMonitor::default();
+    let run = Run::any(calls);
+    let last = run.alone(subject, calls, length, |_, call, outcome| monitor.record(call, outcome))?;
+    monitor.check_end(subject, &last.connections)
 }
 
 /// An id that two live rows have: no run may come to that.

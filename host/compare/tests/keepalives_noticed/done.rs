@@ -221,7 +221,7 @@ pub const WRONG_COSTS: [Overlooked<Spoil>; 8] = [
     ("that it is free for who has spent all", true, |made, answer, before, lent| {
         if made.due.is_some() && made.before.allowances[partner_of(made.caller)].level_at(made.now()) < KEEPALIVE_PRICE
         {
-            (*answer, *lent) = (Answer::from([9, 0, 0, NOBODY, 0]), before.clone());
+            (*answer, *lent) = (Answer::from(([9, 0, 0, NOBODY, 0], before.map)), before.clone());
         }
     }),
     ("that no refill is stored", true, |made, _, _, lent| {

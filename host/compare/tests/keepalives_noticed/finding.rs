@@ -145,7 +145,7 @@ impl Finding {
 
 /// Does what is due, on what was lent as it was before.
 fn do_due(due: Due, made: &Made, lent: &mut Lent) -> Answer {
-    let nothing = Answer::from([0, 0, 0, NOBODY, 0]);
+    let nothing = Answer::from(([0, 0, 0, NOBODY, 0], lent.map));
     if due == Due::Close {
         let connection = made.caller as u64;
         let kind = Kind::Close { connection, relay: lent.relay.lend().len() };

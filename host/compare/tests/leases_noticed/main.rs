@@ -23,13 +23,14 @@ fn doubles_an_id(subject: &Leasing) -> bool {
 
 fn run_doubles_an_id(subject: &Leasing, calls: &mut Calls) -> bool {
     let run = Run::any(calls);
-    let (start, anything) = run.start(calls);
-    let started = make(subject, &anything, &start).lent.tables();
-    let mut tables = run.first_tables(calls, started);
+    let (start, anything, found) = run.start(calls);
+    let started = make(subject, &anything, found, &start);
+    let (mut tables, mut map) = (run.first_tables(calls, started.lent.tables()), started.answer.map);
     let mut pending = Pending::default();
     (0..CALLS_OF_EACH).any(|_| {
         let call = run.next(calls, &decoded(&tables), &mut pending);
-        tables = make(subject, &tables, &call).lent.tables();
+        let outcome = make(subject, &tables, run.handed(calls, map), &call);
+        (tables, map) = (outcome.lent.tables(), outcome.answer.map);
         doubled_id(&decoded(&tables)).is_some()
     })
 }

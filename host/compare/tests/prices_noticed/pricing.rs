@@ -146,7 +146,7 @@ impl Pricing {
     fn charge(&self, made: &Made, before: &Lent, lent: &mut Lent) -> Answer {
         let left = match (self.price)(made) {
             Some(price) if (self.refuses)(made, price) => {
-                let (mut answer, mut after) = (Answer::from([9, 0, 0, NOBODY, 0]), made.before.clone());
+                let (mut answer, mut after) = (Answer::from(([9, 0, 0, NOBODY, 0], before.map)), made.before.clone());
                 (self.refused)(made, &mut answer, &mut after);
                 *lent = before.clone();
                 lent.set_tables(&after.encode());

@@ -122,7 +122,7 @@ impl Keeping {
             (None, 0) => {
                 *lent = before;
                 (self.refused)(lent, now);
-                return Answer { number: 6, ..answer };
+                return Answer { number: 6, map: lent.map, ..answer };
             }
             (None, check) if (self.comes_first)(check) => return Answer { number: 6, ..answer },
             _ => {}

@@ -8,12 +8,13 @@ use crate::support::{establish_with_id_1, relay, relay_in_session, relay_with, s
 const RECORD: usize = 64;
 const LAST_TIME: u64 = TIME_LIMIT - 1;
 const NO_CONNECTION: u64 = CONNECTIONS as u64;
-const NOTHING: Answer = Answer { number: 0, reply: 0, relay: 0, destination: NOBODY as usize, disconnect: false };
+const NOTHING: Answer =
+    Answer { number: 0, reply: 0, relay: 0, destination: NOBODY as usize, disconnect: false, map: 0 };
 
 /// The call for a connection, with what it sends.
 fn find_out(tables: &mut Tables, now: u64, connection: u64) -> Sent {
     let (mut reply, mut relay) = (vec![200; 64], vec![200; 64]);
-    let answer = keepalive(tables, now, connection, &mut reply, &mut relay);
+    let answer = keepalive(tables, 0, now, connection, &mut reply, &mut relay);
     assert_eq!(&reply[answer.reply..], &vec![200; 64 - answer.reply], "further bytes stay");
     assert_eq!(&relay[answer.relay..], &vec![200; 64 - answer.relay], "further bytes stay");
     reply.truncate(answer.reply);
@@ -44,7 +45,7 @@ fn assert_asked(tables: &mut Tables, now: u64, connection: u64) {
 /// The connection, in no session, is closed.
 fn assert_closed(tables: &mut Tables, now: u64, connection: u64) {
     let mut expected = tables.clone();
-    assert_eq!(close(&mut expected, now, connection, &mut [0; 64]), NOTHING);
+    assert_eq!(close(&mut expected, 0, now, connection, &mut [0; 64]), NOTHING);
     assert_eq!(find_out(tables, now, connection).answer, Answer { disconnect: true, ..NOTHING });
     assert_eq!(*tables, expected);
 }
@@ -95,7 +96,7 @@ fn where_the_fields_are() {
 fn opened_at_1_000() {
     let mut tables = relay(900);
     assert_eq!(record(&tables, 0), [0; 14]);
-    assert_eq!(open(&mut tables, 1_000, 0, &mut [0; 64]).reply, 13);
+    assert_eq!(open(&mut tables, 0, 1_000, 0, &mut [0; 64]).reply, 13);
     assert_eq!(record(&tables, 0), bytes(0, AT_1_000, NEVER));
     assert_eq!(record(&tables, 1), [0; 14]);
 }
@@ -120,7 +121,7 @@ fn asked_after_30_seconds_and_closed_after_60() {
 #[test]
 fn one_that_never_answered_the_version_is_found_too() {
     let mut awaiting = relay(1_000);
-    assert_eq!(open(&mut awaiting, 1_000, 0, &mut [0; 64]).number, 0);
+    assert_eq!(open(&mut awaiting, 0, 1_000, 0, &mut [0; 64]).number, 0);
     assert_asked_and_closed(awaiting);
 }
 
@@ -130,7 +131,7 @@ fn the_other_of_a_session_is_told() {
     assert_asked(&mut tables, 1_030, 1);
     assert_quiet(&mut tables, 1_089, 1);
     let mut expected = tables.clone();
-    assert_eq!(close(&mut expected, 1_090, 1, &mut [0; 64]), Answer { relay: 1, destination: 0, ..NOTHING });
+    assert_eq!(close(&mut expected, 0, 1_090, 1, &mut [0; 64]), Answer { relay: 1, destination: 0, ..NOTHING });
     let sent = find_out(&mut tables, 1_090, 1);
     assert_eq!(sent.answer, Answer { relay: 1, destination: 0, disconnect: true, ..NOTHING });
     assert_eq!(sent.relay, [10]);
@@ -280,7 +281,7 @@ fn the_holder_s_keepalive_stays_unanswered_where_a_session_is_made() {
 fn the_version_s_answer() {
     for (ok, left) in [(1, bytes(0, AT_1_030, AT_1_030)), (0, [0; 14])] {
         let mut tables = relay(1_000);
-        assert_eq!(open(&mut tables, 1_000, 0, &mut [0; 64]).number, 0);
+        assert_eq!(open(&mut tables, 0, 1_000, 0, &mut [0; 64]).number, 0);
         assert_asked(&mut tables, 1_030, 0);
         assert_eq!(send(&mut tables, 1_031, 0, &[1, ok]).answer.reply, 0);
         assert_eq!(record(&tables, 0), left);
@@ -290,7 +291,7 @@ fn the_version_s_answer() {
 #[test]
 fn a_close_is_sent_to_the_other() {
     let mut tables = marked();
-    assert_eq!(close(&mut tables, 200, 0, &mut [0; 64]).destination, 1);
+    assert_eq!(close(&mut tables, 0, 200, 0, &mut [0; 64]).destination, 1);
     assert_eq!(record(&tables, 0), [0; 14]);
     tables.connections[..RECORD].copy_from_slice(&marked().connections[..RECORD]);
     assert_marks(&tables, &[], &[1]);
@@ -306,8 +307,8 @@ fn a_refused_call_is_no_answer_and_sends_nothing() {
         assert_eq!(send(&mut tables, 200, caller, message).answer.number, number);
         assert_eq!(tables, before);
     }
-    assert_eq!(open(&mut tables, 200, 0, &mut [0; 64]).number, 4);
-    assert_eq!(close(&mut tables, 200, 0, &mut [0; 63]).number, 5);
+    assert_eq!(open(&mut tables, 0, 200, 0, &mut [0; 64]).number, 4);
+    assert_eq!(close(&mut tables, 0, 200, 0, &mut [0; 63]).number, 5);
     assert_eq!(tables, before);
 }
 
@@ -316,7 +317,7 @@ fn the_checks_are_those_of_close_with_both_buffers() {
     let mut tables = relay_with(100, &[0]);
     let before = tables.clone();
     let mut number = |now, connection, reply, relay| {
-        let number = keepalive(&mut tables, now, connection, &mut vec![0; reply], &mut vec![0; relay]).number;
+        let number = keepalive(&mut tables, 0, now, connection, &mut vec![0; reply], &mut vec![0; relay]).number;
         assert!(number == 0 || tables == before);
         number
     };

@@ -1,6 +1,7 @@
 //! The second relay, on the papers' examples.
 
 mod keepalives;
+mod maps;
 mod prices;
 mod reasons;
 mod renewals;

@@ -15,7 +15,7 @@ fn with_cookie(start: &[u8], cookie: [u8; 24]) -> Vec<u8> {
 /// A lease of id 2, with another cookie, that its holder has left.
 fn relay_with_a_lease_to_renew() -> Tables {
     let mut tables = relay_with_a_lease();
-    assert_eq!(close(&mut tables, 100, 1, &mut [0; 64]).number, 0);
+    assert_eq!(close(&mut tables, 0, 100, 1, &mut [0; 64]).number, 0);
     let mut relay = Relay::decode(&tables).expect("tables of the right sizes");
     (relay.leases[0].id, relay.leases[0].cookie) = (2, [8; 24]);
     relay.encode()
@@ -44,7 +44,7 @@ fn an_open_costs_45() {
     for (before, number, after) in [(44, 9, 44), (45, 0, 0), (46, 0, 1)] {
         let mut tables = relay(100);
         set_allowance(&mut tables, before, 100);
-        assert_eq!(open(&mut tables, 100, 0, &mut [0; 64]).number, number);
+        assert_eq!(open(&mut tables, 0, 100, 0, &mut [0; 64]).number, number);
         assert_eq!(level(&tables), after);
     }
 }
@@ -52,7 +52,7 @@ fn an_open_costs_45() {
 #[test]
 fn a_version_s_answer_costs_34_whatever_it_says() {
     let mut awaiting = relay(100);
-    assert_eq!(open(&mut awaiting, 100, 0, &mut [0; 64]).number, 0);
+    assert_eq!(open(&mut awaiting, 0, 100, 0, &mut [0; 64]).number, 0);
     for ok in [0, 1] {
         assert_costs(34, &awaiting, 0, &[1, ok]);
     }
@@ -80,7 +80,7 @@ fn an_extension_costs_by_whether_it_is_done() {
 #[test]
 fn an_establish_costs_by_its_status() {
     let mut left = relay_with_a_lease();
-    assert_eq!(close(&mut left, 100, 1, &mut [0; 64]).number, 0);
+    assert_eq!(close(&mut left, 0, 100, 1, &mut [0; 64]).number, 0);
     let mut in_session = relay_with_a_lease();
     assert_eq!(send(&mut in_session, 100, 0, ESTABLISH_WITH_ID_1).reply[5], 0);
     assert_costs(140, &relay_with_a_lease(), 0, ESTABLISH_WITH_ID_1);
@@ -119,7 +119,7 @@ fn the_end_of_a_session_stays_free_though_the_other_is_told() {
         let mut closed = tables.clone();
         assert_eq!(send(&mut tables, 100, 0, &[9]).relay, [10]);
         assert_eq!(tables.allowances[..16], allowance);
-        assert_eq!(close(&mut closed, 100, 0, &mut [0; 64]).relay, 1);
+        assert_eq!(close(&mut closed, 0, 100, 0, &mut [0; 64]).relay, 1);
         assert_eq!(closed.allowances[..16], allowance);
     }
 }
@@ -131,7 +131,7 @@ fn finding_out_stays_free_though_something_is_sent() {
         set_allowance(&mut tables, 0, 160);
         tables.connections[2] = unanswered;
         let allowance = tables.allowances[..16].to_vec();
-        let answer = keepalive(&mut tables, 160, 0, &mut [0; 64], &mut [0; 64]);
+        let answer = keepalive(&mut tables, 0, 160, 0, &mut [0; 64], &mut [0; 64]);
         assert_eq!((answer.number, answer.reply, answer.relay), (0, reply, relay));
         assert_eq!(tables.allowances[..16], allowance);
     }
@@ -156,7 +156,7 @@ fn level_50_and_a_lease_whose_only_candidate_is_live_elsewhere_or_not() {
         (relay.leases[127].expiry, relay.leases[127].id) = (expiry, 0x0109_0909);
         let mut tables = relay.encode();
         set_allowance(&mut tables, 50, 100);
-        let answer = message(&mut tables, 100, 0, LEASE_REQUEST, &random, &mut [0; 64], &mut [0; 64]);
+        let answer = message(&mut tables, 0, 100, 0, LEASE_REQUEST, &random, &mut [0; 64], &mut [0; 64]);
         assert_eq!((answer.number, level(&tables)), (number, left));
     }
 }
@@ -166,7 +166,7 @@ fn what_is_lent_has_no_price() {
     for (reply, relay) in [(64, 64), (65, 70_000), (70_000, 64)] {
         let mut tables = relay_with(100, &[0]);
         set_allowance(&mut tables, 72, 100);
-        let answer = message(&mut tables, 100, 0, LEASE_REQUEST, &RANDOM, &mut vec![0; reply], &mut vec![0; relay]);
+        let answer = message(&mut tables, 0, 100, 0, LEASE_REQUEST, &RANDOM, &mut vec![0; reply], &mut vec![0; relay]);
         assert_eq!((answer.number, answer.reply, level(&tables)), (0, 38, 0));
     }
 }

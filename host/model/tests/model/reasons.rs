@@ -119,7 +119,7 @@ fn the_first_condition_of_a_lease_that_fails() {
 #[test]
 fn the_status_of_an_establish() {
     let mut left_by_its_holder = relay_with_a_lease();
-    assert_eq!(close(&mut left_by_its_holder, 100, 1, &mut [0; 64]).number, 0);
+    assert_eq!(close(&mut left_by_its_holder, 0, 100, 1, &mut [0; 64]).number, 0);
     let mut in_session = relay_with_a_lease();
     assert_eq!(send(&mut in_session, 100, 0, ESTABLISH_WITH_ID_1).reply[5], 0);
     let cases = [

@@ -61,7 +61,7 @@ fn ask(tables: &mut Tables, now: u64, caller: u64, request: &[u8]) -> Option<(u3
 /// The same with other random bytes.
 fn ask_with(tables: &mut Tables, now: u64, caller: u64, request: &[u8], random: &[u8]) -> Option<(u32, [u8; 24], u64)> {
     let (mut reply, mut relay) = ([0; 64], [0; 64]);
-    let answer = message(tables, now, caller, request, random, &mut reply, &mut relay);
+    let answer = message(tables, 0, now, caller, request, random, &mut reply, &mut relay);
     match codec::decode(&reply[..answer.reply]).expect("an answer to a lease request") {
         Message::LeaseGranted { id, cookie, expiration } => Some((id, cookie.try_into().ok()?, expiration)),
         other => {
@@ -111,7 +111,7 @@ fn leased_at_100() -> Tables {
 #[test]
 fn another_connection_comes_back_with_the_cookie() {
     let mut tables = leased_at_100();
-    assert_eq!(close(&mut tables, 200, 0, &mut [0; 64]).number, 0);
+    assert_eq!(close(&mut tables, 0, 200, 0, &mut [0; 64]).number, 0);
     assert_renewed(&decoded(&tables), 9_000, 1, 0);
     assert_eq!(ask(&mut tables, 9_000, 1, &REQUEST_WITH_K), Some((7, K, 9_600)));
 }
@@ -200,7 +200,7 @@ fn two_live_rows_may_come_to_have_one_cookie() {
     let random = [&K, &RANDOM[24..]].concat();
     assert_eq!(ask_with(&mut tables, 100, 0, &[2, 0], &random), Some((NEW_ID, K, 700)));
     assert_renewed(&decoded(&tables), 100, 1, 0);
-    assert_eq!(close(&mut tables, 101, 0, &mut [0; 64]).number, 0);
+    assert_eq!(close(&mut tables, 0, 101, 0, &mut [0; 64]).number, 0);
     assert_eq!(ask(&mut tables, 102, 1, &REQUEST_WITH_K), Some((7, K, 702)));
     let rows = decoded(&tables).leases;
     assert!([0, 1].iter().all(|&row| rows[row].is_live(102) && rows[row].cookie == K));

@@ -15,7 +15,7 @@ pub fn relay(now: u64) -> Tables {
 /// The same of the term that is named.
 pub fn relay_of_term(now: u64, term: u64) -> Tables {
     let mut tables = anything();
-    assert_eq!(fresh(&mut tables, now, term).number, 0);
+    assert_eq!(fresh(&mut tables, 0, now, term).number, 0);
     tables
 }
 
@@ -27,7 +27,7 @@ pub fn relay_with(now: u64, connections: &[u64]) -> Tables {
 /// The relay, these connections opened.
 pub fn with_open(mut tables: Tables, now: u64, connections: &[u64]) -> Tables {
     for &connection in connections {
-        assert_eq!(open(&mut tables, now, connection, &mut [0; 64]).number, 0);
+        assert_eq!(open(&mut tables, 0, now, connection, &mut [0; 64]).number, 0);
         assert_eq!(send(&mut tables, now, connection, &[1, 1]).answer.number, 0);
     }
     tables
@@ -48,7 +48,7 @@ pub const RANDOM: [u8; 80] = {
 
 pub fn send(tables: &mut Tables, now: u64, connection: u64, bytes: &[u8]) -> Sent {
     let (mut reply, mut relay) = (vec![0; 64], vec![0; 64.max(bytes.len())]);
-    let answer = message(tables, now, connection, bytes, &RANDOM, &mut reply, &mut relay);
+    let answer = message(tables, 0, now, connection, bytes, &RANDOM, &mut reply, &mut relay);
     reply.truncate(answer.reply);
     relay.truncate(answer.relay);
     Sent { answer, reply, relay }

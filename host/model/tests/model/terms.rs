@@ -40,7 +40,8 @@ const STORED: [(u64, u64); 14] = [
     (u64::MAX, 600),
 ];
 
-const REFUSAL: Answer = Answer { number: 6, reply: 0, relay: 0, destination: NOBODY as usize, disconnect: false };
+const REFUSAL: Answer =
+    Answer { number: 6, reply: 0, relay: 0, destination: NOBODY as usize, disconnect: false, map: 0 };
 
 /// The cookie that the random bytes here give a lease.
 const COOKIE: [u8; 24] = [9; 24];
@@ -100,7 +101,7 @@ fn expiration(tables: &mut Tables, now: u64, connection: u64, request: &[u8]) ->
 fn what_is_stored_of_a_named_term() {
     for (term, number) in ACCEPTED {
         let mut tables = anything();
-        assert_eq!(fresh(&mut tables, 100, term), Answer { number: 0, ..REFUSAL });
+        assert_eq!(fresh(&mut tables, 0, 100, term), Answer { number: 0, ..REFUSAL });
         assert_eq!(tables, Relay::fresh(100, StoredTerm(number)).encode());
         assert_eq!(stored(&tables), number.to_be_bytes());
         assert_eq!(tables.allowances[CLOCK..], 100_u64.to_be_bytes());
@@ -112,7 +113,7 @@ fn other_terms_are_answered_with_6() {
     for term in REFUSED {
         for mut tables in [anything(), relay(100), relay_with_stored(0)] {
             let before = tables.clone();
-            assert_eq!(fresh(&mut tables, 100, term), REFUSAL, "{term}");
+            assert_eq!(fresh(&mut tables, 0, 100, term), REFUSAL, "{term}");
             assert_eq!(tables, before);
         }
     }
@@ -122,17 +123,17 @@ fn other_terms_are_answered_with_6() {
 fn the_order_of_refusals() {
     for term in REFUSED.into_iter().chain(ACCEPTED.map(|(term, _)| term)) {
         for time in [TIME_LIMIT, u64::MAX] {
-            assert_eq!(fresh(&mut anything(), time, term).number, 2, "{term}");
+            assert_eq!(fresh(&mut anything(), 0, time, term).number, 2, "{term}");
         }
         for time in [100, TIME_LIMIT] {
             let mut tables = anything();
             tables.allowances.pop();
-            assert_eq!(fresh(&mut tables, time, term).number, 1, "{term}");
+            assert_eq!(fresh(&mut tables, 0, time, term).number, 1, "{term}");
         }
     }
-    assert_eq!(fresh(&mut relay(1_000), 999, 599).number, 6);
-    assert_eq!(fresh(&mut relay(1_000), 999, 600).number, 0);
-    assert_eq!(fresh(&mut relay(0), TIME_LIMIT - 1, 599).number, 6);
+    assert_eq!(fresh(&mut relay(1_000), 0, 999, 599).number, 6);
+    assert_eq!(fresh(&mut relay(1_000), 0, 999, 600).number, 0);
+    assert_eq!(fresh(&mut relay(0), 0, TIME_LIMIT - 1, 599).number, 6);
 }
 
 #[test]
@@ -215,13 +216,13 @@ fn no_call_but_a_fresh_start_writes_the_term() {
         for message in [&establish[..], &[11, 7], &[13], &[9]] {
             assert_eq!(send(&mut tables, 100, 1, message).answer.number, 0);
         }
-        assert_eq!(open(&mut tables, 101, 9, &mut [0; 64]).number, 0);
+        assert_eq!(open(&mut tables, 0, 101, 9, &mut [0; 64]).number, 0);
         for (now, disconnect) in [(131, false), (191, true)] {
-            assert_eq!(keepalive(&mut tables, now, 9, &mut [0; 64], &mut [0; 64]).disconnect, disconnect);
+            assert_eq!(keepalive(&mut tables, 0, now, 9, &mut [0; 64], &mut [0; 64]).disconnect, disconnect);
         }
-        assert_eq!(close(&mut tables, 200, 0, &mut [0; 64]).number, 0);
+        assert_eq!(close(&mut tables, 0, 200, 0, &mut [0; 64]).number, 0);
         assert_eq!(stored(&tables), number.to_be_bytes());
-        assert_eq!(fresh(&mut tables, 200, 0).number, 0);
+        assert_eq!(fresh(&mut tables, 0, 200, 0).number, 0);
         assert_eq!(stored(&tables), 600_u64.to_be_bytes());
     }
 }

@@ -26,7 +26,7 @@ fn case_3_has_cookie_2() {
 #[test]
 fn case_4_type_11_alone_in_session() {
     let sent = send(&mut relay_in_session(100), 100, 0, &[11]);
-    assert_eq!(sent.answer, Answer { number: 0, reply: 0, relay: 1, destination: 1, disconnect: false });
+    assert_eq!(sent.answer, Answer { number: 0, reply: 0, relay: 1, destination: 1, disconnect: false, map: 0 });
     assert_eq!(sent.relay, [12]);
 }
 
@@ -71,19 +71,19 @@ fn case_8_the_longest_send() {
 #[test]
 fn case_9_the_latest_time() {
     for (now, number) in [(TIME_LIMIT - 1, 0), (TIME_LIMIT, 2)] {
-        assert_eq!(fresh(&mut relay(0), now, 0).number, number);
-        assert_eq!(open(&mut relay(0), now, 0, &mut [0; 64]).number, number);
+        assert_eq!(fresh(&mut relay(0), 0, now, 0).number, number);
+        assert_eq!(open(&mut relay(0), 0, now, 0, &mut [0; 64]).number, number);
         assert_eq!(send(&mut relay_with(0, &[0]), now, 0, &[13]).answer.number, number);
-        assert_eq!(close(&mut relay_with(0, &[0]), now, 0, &mut [0; 64]).number, number);
+        assert_eq!(close(&mut relay_with(0, &[0]), 0, now, 0, &mut [0; 64]).number, number);
     }
 }
 
 #[test]
 fn case_10_the_opening_reply() {
     let mut reply = [200; 64];
-    let answer = open(&mut relay(100), 100, 63, &mut reply);
+    let answer = open(&mut relay(100), 0, 100, 63, &mut reply);
     let nobody = usize::from(NOBODY);
-    assert_eq!(answer, Answer { number: 0, reply: 13, relay: 0, destination: nobody, disconnect: false });
+    assert_eq!(answer, Answer { number: 0, reply: 13, relay: 0, destination: nobody, disconnect: false, map: 1 << 63 });
     assert_eq!(reply[..14], [0, 83, 86, 83, 67, 32, 48, 48, 49, 46, 48, 48, 48, 200]);
 }
 

@@ -1,0 +1,1 @@
+// The map of the connections, worked out by hand: definitions and the laws of their tables. There is no code.
