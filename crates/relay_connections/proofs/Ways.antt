@@ -4,8 +4,8 @@ use mathlib.Core.Path.{_≡_, ap, _∙_}
 use native.Mathlib.Omega.{arith}
 use lib.Count.{ones, trailingZeros}
 use borrow.Author.Tests.{lt-ltb, le-ltb}
-use Rattle.rules.specs.Sizes.{partners, connectionsPerPartner, nobody}
-use Rattle.connection_map.specs.Maps.{firstConnection, endConnection, connectionsOf, firstClear, lowestClosed, partnerConnections}
+use Rattle.rules.specs.Sizes.{connectionsPerPartner, nobody}
+use Rattle.connection_map.specs.Maps.{firstConnection, endConnection, connectionsOf, firstClear, lowestClosed}
 use Rattle.connection_map.proofs.Bits.{ones-window, clear-window}
 
 module _ (map p bits : ℕ) (e : bits ≡ map / 2 ^ firstConnection p % 2 ^ connectionsPerPartner) where

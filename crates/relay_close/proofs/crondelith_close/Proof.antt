@@ -49,7 +49,7 @@ closed-requires : tie.Need-closed-requires
 closed-requires c κs =
     let a = c .before .before .before .before .before .before .before .before .before .before .before .before .before .before .before .before .before .before .before .before .before .before .args in
     let tables = lent (a .connections .now) (a .leases .now) (a .allowances .now) in
-    call-known tables (closing (a .time) (a .connection) (a .relay .now)) _ (c .before .before .before .before .before .before .before .before .before .before .before .before .before .before .refusal .ensures (a .relay .now) refl) (c .before .before .before .before .before .before .before .before .before .before .before .before .before .if1 .left)
+    omega (arith, call-known tables (closing (a .time) (a .connection) (a .relay .now)) _ (c .before .before .before .before .before .before .before .before .before .before .before .before .before .before .refusal .ensures (a .relay .now) refl) (c .before .before .before .before .before .before .before .before .before .before .before .before .before .if1 .left))
 
 same-length-4 : tie.Need-same-length-4
 same-length-4 c = search needs

@@ -55,7 +55,7 @@ closed-if-disconnected-requires : tie.Need-closed-if-disconnected-requires
 closed-if-disconnected-requires c κs =
     let a = c .before .before .before .before .before .before .before .before .before .before .before .before .before .before .before .before .before .before .before .before .before .before .before .before .before .before .before .before .before .before .before .args in
     let tables = lent (a .connections .now) (a .leases .now) (a .allowances .now) in
-    call-known tables (keepalive (a .time) (a .connection) (a .reply .now) (a .relay .now)) _ (c .before .before .before .before .before .before .before .before .before .before .before .before .before .before .before .before .before .before .before .before .before .before .refusal .ensures (a .reply .now) (a .relay .now) refl refl) (c .before .before .before .before .before .before .before .before .before .before .before .before .before .before .before .before .before .before .before .before .before .if1 .left)
+    omega (arith, call-known tables (keepalive (a .time) (a .connection) (a .reply .now) (a .relay .now)) _ (c .before .before .before .before .before .before .before .before .before .before .before .before .before .before .before .before .before .before .before .before .before .before .refusal .ensures (a .reply .now) (a .relay .now) refl refl) (c .before .before .before .before .before .before .before .before .before .before .before .before .before .before .before .before .before .before .before .before .before .if1 .left))
 
 same-length-4 : tie.Need-same-length-4
 same-length-4 c = search needs

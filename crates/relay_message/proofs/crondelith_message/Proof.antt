@@ -70,7 +70,7 @@ closed-if-disconnected-requires c κs =
     let a = s .before .before .before .before .before .before .before .before .before .before .before .before .before .args in
     let tables = lent (a .connections .now) (a .leases .now) (a .allowances .now) in
     let all = s .before .before .assess .ensures (a .reply .now) (a .relay .now) refl refl in
-    admitted tables (a .time) (a .connection) (a .m .now) (a .random .now) (a .reply .now) (a .relay .now) (s .before .before .assess .result) all (s .if1 .left) .known
+    omega (arith, admitted tables (a .time) (a .connection) (a .m .now) (a .random .now) (a .reply .now) (a .relay .now) (s .before .before .assess .result) all (s .if1 .left) .known)
 
 same-length-4 : tie.Need-same-length-4
 same-length-4 c = search needs

@@ -49,7 +49,7 @@ opened-requires : tie.Need-opened-requires
 opened-requires c κs =
     let a = c .before .before .before .before .before .before .before .before .before .before .before .before .before .before .before .before .before .before .before .args in
     let tables = lent (a .connections .now) (a .leases .now) (a .allowances .now) in
-    call-known tables (opening (a .time) (a .connection) (a .reply .now)) _ (c .before .before .before .before .before .before .before .before .before .before .before .refusal .ensures (a .reply .now) refl) (c .before .before .before .before .before .before .before .before .before .before .if1 .left)
+    omega (arith, call-known tables (opening (a .time) (a .connection) (a .reply .now)) _ (c .before .before .before .before .before .before .before .before .before .before .before .refusal .ensures (a .reply .now) refl) (c .before .before .before .before .before .before .before .before .before .before .if1 .left))
 
 same-length-4 : tie.Need-same-length-4
 same-length-4 c = search needs

@@ -1,6 +1,4 @@
 -- `crondelith_rebuild`: a table of another size, or its map.
-use mathlib.Core.Path.{_∙_}
-use borrow.Author.Tests.{eq-eqb, ne-eqb}
 use Rattle.connection_map.proofs.Rebuilding.{rebuilt, not-rebuilt}
 use borrow.Author.Needs.{needs}
 use Rattle.relay_rebuild.proofs.crondelith_rebuild.Statement.{statement}
