@@ -9,7 +9,7 @@ use lib.Pow.{pow-pos, pow-lt, pow-mono, shr-shr, shl-exact, field, mod-mod-pow}
 use lib.Bits.{bitAnd, bitOr, and-step, or-step, or-zero-r, or-lt, and-mask}
 use lib.Count.{ones, ones-step, trailingZeros, under}
 use lib.Dec.{eqb, eqb·zero-suc, eqb·suc-zero, eqb·suc-suc}
-use borrow.Author.Tests.{eqb-true, eqb-false, eq-eqb}
+use borrow.Author.Tests.{eqb-true, eqb-false}
 use Rattle.octets.specs.Octets.{if_then_else_}
 use Rattle.rules.specs.Searches.{firstFrom}
 use Rattle.rules.proofs.Searches.{first-turn}

@@ -1,20 +1,20 @@
 -- What is read of the map: how many connections a partner has, and its lowest closed number. Assumes nothing.
-use Prim.Native.Nat.{ℕ, zero, suc, _+_, _*_, _≤_, _<_}
+use Prim.Native.Nat.{ℕ, zero, suc, _+_, _≤_, _<_}
 use mathlib.Core.Path.{_≡_, refl, sym, ap, ap₂, _∙_}
 use mathlib.Core.Logic.{_≢_, _↔_}
-use mathlib.Core.Bool.{Bool, true, false, not, true≢false, false≢true}
+use mathlib.Core.Bool.{Bool, true, false, not, true≢false}
 use mathlib.Core.List.{List}
 use native.Mathlib.Omega.{arith}
 use native.Mathlib.Decide.{decLt}
 use lib.Dec.{ltb, lit≤}
 use borrow.Author.Tests.{lt-ltb, le-ltb, not-false}
 use Rattle.octets.specs.Octets.{if_then_else_}
-use Rattle.rules.specs.Sizes.{partners, connectionsPerPartner, connectionCount}
+use Rattle.rules.specs.Sizes.{partners, connectionsPerPartner}
 use Rattle.rules.specs.Searches.{firstFrom}
-use Rattle.rules.specs.Tables.{partnerOf, isClosed}
+use Rattle.rules.specs.Tables.{isClosed}
 use Rattle.rules.proofs.Searches.{first-low, first-passes, first-below, first-found}
 use Rattle.connection_map.specs.Bits.{isSet, countFrom}
-use Rattle.connection_map.specs.Maps.{Agrees, firstConnection, endConnection, connectionsOf, firstClear, lowestClosed, PartnerConnections, partnerConnections}
+use Rattle.connection_map.specs.Maps.{Agrees, firstConnection, endConnection, connectionsOf, firstClear, lowestClosed, partnerConnections}
 use Rattle.connection_map.specs.Claims.{Lowest, openOf}
 
 -- ---- counts

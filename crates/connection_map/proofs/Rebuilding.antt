@@ -1,20 +1,19 @@
 -- "one that doesn't agree can be rebuilt": the map of a table agrees with it, and no other does. Assumes nothing.
 use Prim.Native.Nat.{ℕ, zero, suc, _+_, _^_, _<_}
-use mathlib.Core.Path.{_≡_, refl, sym, ap, _∙_}
+use mathlib.Core.Path.{_≡_, refl, sym, _∙_}
 use mathlib.Core.Logic.{_≢_, _↔_}
 use mathlib.Core.Bool.{Bool, true, false, not}
 use mathlib.Core.List.{List}
 use native.Mathlib.Nat.{pow-suc}
 use native.Mathlib.Omega.{arith}
 use native.Mathlib.Decide.{ℕ-discrete}
-use lib.Dec.{eqb}
 use lib.ListN.{length}
 use borrow.Author.Tests.{eq-eqb, ne-eqb}
 use Rattle.octets.specs.Octets.{if_then_else_}
 use Rattle.rules.specs.Sizes.{connectionCount, connectionsSize}
 use Rattle.rules.specs.Tables.{isClosed}
 use Rattle.connection_map.specs.Bits.{isSet, withBit}
-use Rattle.connection_map.specs.Maps.{Agrees, mapOfFirst, mapOf, Rebuilt, rebuild}
+use Rattle.connection_map.specs.Maps.{Agrees, mapOfFirst, mapOf, rebuild}
 use Rattle.connection_map.proofs.Bits.{past-clear, with-exactly, same-bits}
 
 -- of the first n connections each has its bit, and there are no others

@@ -14,7 +14,7 @@ use Rattle.allowance.proofs.Demand3.{demand3}
 use Rattle.rules.specs.Sizes.{connectionCount}
 use Rattle.rules.specs.Tables.{Tables, connectionAt, state, isClosed, fresh}
 use Rattle.rules.specs.Calls.{Call}
-use Rattle.rules.specs.Step.{step, start}
+use Rattle.rules.specs.Step.{start}
 use Rattle.rules.specs.Runs as unmapped
 use Rattle.rules.proofs.Fresh.{fresh-connection}
 use Rattle.rules.proofs.Metered.{relay-metered}

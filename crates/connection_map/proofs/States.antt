@@ -8,16 +8,14 @@ use native.Mathlib.Omega.{arith}
 use native.Mathlib.Decide.{ℕ-discrete}
 use lib.Dec.{eqb, leb, ltb, lit≤}
 use lib.ListN.{length}
-use borrow.Author.Tests.{eq-eqb, ne-eqb, not-false}
+use borrow.Author.Tests.{eq-eqb, ne-eqb}
 use Rattle.octets.specs.Octets.{if_then_else_, byteAt}
-use Rattle.octets.proofs.Stores.{length-put}
 use Rattle.rules.specs.Sizes.{connectionCount, connectionBytes, connectionsSize}
 use Rattle.rules.specs.Searches.{endRow}
 use Rattle.rules.specs.Tables.{Tables, partnerOf, connectionAt, awaiting, opened, closed, state, isClosed, peer, hasSession, setState}
 use Rattle.rules.specs.Leases.{decideLease, rowToExtend}
 use Rattle.rules.specs.Sessions.{EstablishDecision, refusedWith, establishedWith, decideEstablish, clear, await, establish}
-use Rattle.rules.specs.Calls.{Call, opening, message, closing, keepalive, timeOf, connectionOf, Answer}
-use Rattle.rules.specs.Decisions.{Decision}
+use Rattle.rules.specs.Calls.{Call, opening, message, closing, keepalive}
 use Rattle.rules.specs.Keepalives.{isDead, isDue}
 use Rattle.rules.specs.Plans.{Plan, planOpen, planVersionAnswer, planLease, planExtension, planEstablish, planEnd, planData, planClose, planDecided, planMessage, planKeepalive, planCall, plan}
 use Rattle.rules.specs.Bytes.{ChangedOnly}

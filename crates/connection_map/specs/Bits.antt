@@ -1,6 +1,6 @@
 -- Bits of a number, counted from the lowest, which is bit 0.
 use Prim.Native.Nat.{ℕ, zero, suc, _+_, _-_, _/_, _%_, _^_}
-use mathlib.Core.Bool.{Bool, true, false}
+use mathlib.Core.Bool.{Bool}
 use lib.Dec.{eqb}
 use Rattle.octets.specs.Octets.{if_then_else_}
 

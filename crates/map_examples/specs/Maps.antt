@@ -7,7 +7,7 @@ use Rattle.rules.specs.Tables.{Tables, lent, fresh, setState}
 use Rattle.rules.specs.Calls.{Call, opening, closing, keepalive}
 use Rattle.rules.specs.Runs.{after}
 use Rattle.connection_map.specs.Bits.{isSet, withBit, withoutBit, countFrom}
-use Rattle.connection_map.specs.Maps.{mapOfFirst, mapOf, Rebuilt, rebuild, connectionsOf, firstClear, lowestClosed, PartnerConnections, partnerConnections, mapOfDone, mapAfter}
+use Rattle.connection_map.specs.Maps.{mapOfFirst, mapOf, rebuild, connectionsOf, firstClear, lowestClosed, partnerConnections, mapOfDone, mapAfter}
 use Rattle.connection_map.specs.Steps.{stepWithMap, startWithMap}
 use Rattle.examples.specs.Computed.{computed}
 use Rattle.examples.specs.Examples.{Example, row, buffer, random, sends, free}
