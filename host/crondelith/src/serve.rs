@@ -34,15 +34,18 @@ no message for a refusal, so this is what follows from one:
                              millisecond for each KiB of it
   malformed (6), or not
   permitted then (7)         the connection is closed
-  a ninth connection         waits a tenth of a second for a number, and is closed
+  a ninth connection         waits a tenth of a second for a number, and is closed; so is a new one
+                             while the partner has sixteen, with those that have ended and are
+                             still written to
 
 Each has a log line on stderr, with the time and the peer's address, and of a message that waits
 how many units are missing; from the eleventh line of a kind and connection on they are summed up,
-every 5 seconds. At most some 160 KiB wait for a connection that reads slowly: beyond that its
-senders wait too. A connection is closed that takes less than 16 KiB of what waits for it in 30
-seconds, doesn't answer the relay's version in 10, or leaves a frame unfinished for 30. One that
-can't be opened in 60 for want of allowance is closed too. The kernel tells of what is taken
-in lumps, so a peer should read 10 KB a second or more.
+every 5 seconds. A line names the connection's number, or its partner alone before the connection
+is opened: then it has none. At most some 160 KiB wait for a connection that reads slowly: beyond
+that its senders wait too. A connection is closed that takes less than 16 KiB of what waits for
+it in 30 seconds, doesn't answer the relay's version in 10, or leaves a frame unfinished for 30.
+One that can't be opened in 60 for want of allowance is closed too. The kernel tells of what is
+taken in lumps, so a peer should read 10 KB a second or more.
 
 A peer that was sent nothing for 30 seconds is sent a Keepalive. It answers by a Keepalive, or any
 other message that is accepted; if none is in 60 seconds, its connection is closed, and the other

@@ -10,10 +10,13 @@ use mio::net::TcpStream;
 use crate::input::Input;
 use crate::message;
 use crate::refusal::Refusal;
+use crate::sockets::SocketId;
 
 pub struct Connection {
     pub stream: TcpStream,
     pub address: SocketAddr,
+    /// Its number with the engine, from when the engine has opened it until it has closed it.
+    pub number: Option<usize>,
     pub input: Input,
     pub phase: Phase,
     /// Bytes may have come that haven't been read.
@@ -26,8 +29,8 @@ pub struct Connection {
     pub hold: Option<Hold>,
     /// Its first message, or its open, has been refused for allowance.
     pub waits: bool,
-    /// The connection that it is in session with.
-    pub paired: Option<usize>,
+    /// The one that it is in session with.
+    pub paired: Option<SocketId>,
     /// By when the peer has to have sent what is expected of it: its version answer, the rest of a frame, or its end.
     pub due: Option<Instant>,
     pub progress: Option<Progress>,
@@ -46,8 +49,8 @@ pub enum Phase {
 
 #[derive(Clone, Copy, Debug, PartialEq, Eq)]
 pub enum Hold {
-    /// Its last message left this connection's output full.
-    Output(usize),
+    /// Its last message left this one's output full.
+    Output(SocketId),
     /// Its last message was dropped.
     Pause(Instant),
 }
@@ -75,6 +78,7 @@ impl Connection {
         Self {
             stream,
             address,
+            number: None,
             input: Input::default(),
             phase: Phase::Opening,
             readable: false,
@@ -97,6 +101,12 @@ impl Connection {
         }
     }
 
+    /// Whether its peer has gone before it was opened, and has said nothing that could be served to its end.
+    pub fn has_left_unopened(&self) -> bool {
+        let has_said_nothing = || self.stream.peek(&mut [0]).is_ok_and(|count| count == 0);
+        self.phase == Phase::Opening && self.read_closed && has_said_nothing()
+    }
+
     /// Whether the engine has opened it, and hasn't closed it.
     pub fn is_opened(&self) -> bool {
         matches!(self.phase, Phase::Greeted | Phase::Open)
@@ -107,9 +117,10 @@ impl Connection {
         self.hold.is_none() && self.is_opened()
     }
 
-    /// Whether its stream is read: also for nobody, when it is closing.
+    /// Whether its stream is read: also for nobody, when all is written to it and its peer's end is awaited. Before that
+    /// nothing is read of one that is closing: its partner wouldn't pay for it.
     pub fn is_read(&self) -> bool {
-        self.is_taken_from() || self.phase == Phase::Closing && !self.ended
+        self.is_taken_from() || self.phase == Phase::Closing && self.due.is_some()
     }
 
     /// Whether a SessionEnd can be taken from it: the one message that costs nothing, so it is offered at once, whoever

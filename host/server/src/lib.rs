@@ -22,6 +22,7 @@ mod refusal;
 mod relay;
 mod saver;
 mod server;
+mod sockets;
 mod state_file;
 mod statistics;
 mod turns;

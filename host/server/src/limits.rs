@@ -7,13 +7,13 @@ pub struct Limits {
     /// In so long a peer has to take `least_progress` bytes of what waits for it, or all of it.
     pub patience: Duration,
     pub least_progress: usize,
-    /// For the allowance of its open, by a connection that has a number.
+    /// For the allowance of its open, by a connection for which there is a number.
     pub open: Duration,
     /// For the answer to the relay's version.
     pub version: Duration,
     /// For the rest of a frame that has begun.
     pub frame: Duration,
-    /// For a number, by a connection that comes while all of its partner's are in use.
+    /// For a number, by a connection that comes while all of its partner's are in use, or for a place among its sockets.
     pub number: Duration,
     /// For what is still to be written when the relay ends.
     pub last_words: Duration,

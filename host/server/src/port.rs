@@ -8,7 +8,8 @@ use std::time::{Duration, Instant};
 use mio::net::{TcpListener, TcpStream};
 use socket2::{Domain, Protocol, SockRef, Socket, Type};
 
-use crate::{descriptors, CONNECTIONS_EACH, PARTNERS};
+use crate::sockets::SOCKETS_EACH;
+use crate::{descriptors, PARTNERS};
 
 /// The kernel's buffers of a connection, each; it books twice as much. Larger ones would let a peer send in advance what
 /// its partner then pays for long after the peer has gone, and hide how fast a peer reads.
@@ -39,7 +40,7 @@ pub fn bind_free() -> io::Result<Listeners> {
 /// Listens on each partner's addresses, if there are descriptors for all that will connect.
 fn bind_at(places: impl Fn(usize) -> Vec<SocketAddr>) -> io::Result<Listeners> {
     let places: Vec<_> = (0..PARTNERS).map(places).collect();
-    descriptors::ensure(places.iter().flatten().count() + PARTNERS * (CONNECTIONS_EACH + WAITING_LIMIT))?;
+    descriptors::ensure(places.iter().flatten().count() + PARTNERS * (SOCKETS_EACH + WAITING_LIMIT))?;
     let of_partner =
         |(partner, places): (usize, &Vec<SocketAddr>)| places.iter().map(|place| named(partner, *place)).collect();
     places.iter().enumerate().map(of_partner).collect::<io::Result<_>>().map(Listeners)

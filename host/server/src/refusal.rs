@@ -18,9 +18,6 @@ pub enum Consequence {
 }
 
 impl Refusal {
-    /// An open of a connection that is open, or another call of one that isn't.
-    pub const WRONG_STATE: Self = Self(4);
-
     pub fn consequence(self) -> Consequence {
         match self.0 {
             8 => Consequence::Drop,

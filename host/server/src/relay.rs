@@ -1,7 +1,7 @@
-//! The engine's tables and their clock.
+//! The engine's tables, the map of the connections and the clock.
 
 use engine::reasons::{self, Reason};
-use engine::relay::{self, Answer};
+use engine::relay::{self, Answer, PartnerConnections};
 
 use crate::calls::{relay_length, REPLY_LENGTH};
 use crate::clock::Clock;
@@ -107,6 +107,9 @@ fn number_at_start(bytes: &[u8]) -> u64 {
 
 pub struct Relay {
     tables: Tables,
+    /// Which connections aren't closed: each call is handed the map that the one before gave back, so it agrees with the
+    /// tables.
+    map: u64,
     clock: Box<dyn Clock>,
     latest: u64,
 }
@@ -114,21 +117,21 @@ pub struct Relay {
 impl Relay {
     /// A fresh relay. A clock out of the engine's range is refused.
     pub fn fresh(clock: Box<dyn Clock>, term: LeaseTerm) -> Result<Self, Refusal> {
-        let mut relay = Self { tables: Tables([0; Tables::SIZE]), clock, latest: 0 };
+        let mut relay = Self { tables: Tables([0; Tables::SIZE]), map: 0, clock, latest: 0 };
         let now = relay.now();
-        accepted(relay::fresh(relay.tables.lend(), now, term.seconds()))?;
+        let answer = relay::fresh(relay.tables.lend(), relay.map, now, term.seconds());
+        relay.accepted(answer)?;
         Ok(relay)
     }
 
     /// A relay that goes on with the tables of an earlier run, whose connections are gone.
     pub fn restored(mut clock: Box<dyn Clock>, tables: Tables) -> Result<Self, Refusal> {
         clock.start_from(tables.clock());
-        let mut relay = Self { latest: tables.clock(), tables, clock };
-        for connection in 0..PARTNERS * CONNECTIONS_EACH {
-            match relay.close(connection, &mut [0; relay::BUFFER]) {
-                Ok(_) | Err(Refusal::WRONG_STATE) => {}
-                Err(refusal) => return Err(refusal),
-            }
+        // The size is the type's, so there is no other answer than a map.
+        let map = relay::rebuild(tables.view().connections).map;
+        let mut relay = Self { latest: tables.clock(), tables, map, clock };
+        for connection in (0..PARTNERS * CONNECTIONS_EACH).filter(|connection| map >> connection & 1 == 1) {
+            relay.close(connection, &mut [0; relay::BUFFER])?;
         }
         Ok(relay)
     }
@@ -141,9 +144,15 @@ impl Relay {
         &mut *self.clock
     }
 
+    /// How many connections a partner has, and the number that its next one gets.
+    pub fn connections_of(&self, partner: usize) -> PartnerConnections {
+        relay::connections_of(self.map, partner as u64)
+    }
+
     pub fn open(&mut self, connection: usize, reply: &mut [u8]) -> Result<Answer, Refusal> {
         let now = self.now();
-        accepted(relay::open(self.tables.lend(), now, connection as u64, reply))
+        let answer = relay::open(self.tables.lend(), self.map, now, connection as u64, reply);
+        self.accepted(answer)
     }
 
     pub fn message(
@@ -155,18 +164,22 @@ impl Relay {
         relay: &mut [u8],
     ) -> Result<Answer, Refusal> {
         let now = self.now();
-        accepted(relay::message(self.tables.lend(), now, connection as u64, message, random, reply, relay))
+        let (tables, connection) = (self.tables.lend(), connection as u64);
+        let answer = relay::message(tables, self.map, now, connection, message, random, reply, relay);
+        self.accepted(answer)
     }
 
     pub fn close(&mut self, connection: usize, relay: &mut [u8]) -> Result<Answer, Refusal> {
         let now = self.now();
-        accepted(relay::close(self.tables.lend(), now, connection as u64, relay))
+        let answer = relay::close(self.tables.lend(), self.map, now, connection as u64, relay);
+        self.accepted(answer)
     }
 
     /// Finds out whether a connection's peer still answers.
     pub fn keepalive(&mut self, connection: usize, reply: &mut [u8], relay: &mut [u8]) -> Result<Answer, Refusal> {
         let now = self.now();
-        accepted(relay::keepalive(self.tables.lend(), now, connection as u64, reply, relay))
+        let answer = relay::keepalive(self.tables.lend(), self.map, now, connection as u64, reply, relay);
+        self.accepted(answer)
     }
 
     /// Why an open was refused: this is about its reading, the latest.
@@ -187,22 +200,30 @@ impl Relay {
         self.latest = self.latest.max(self.clock.now());
         self.latest
     }
-}
 
-fn accepted(answer: Answer) -> Result<Answer, Refusal> {
-    match answer.number {
-        0 => Ok(answer),
-        number => Err(Refusal(number)),
+    /// Keeps the map of an answer, if the call was accepted: a refused one's is that of before.
+    fn accepted(&mut self, answer: Answer) -> Result<Answer, Refusal> {
+        match answer.number {
+            0 => {
+                self.map = answer.map;
+                Ok(answer)
+            }
+            number => Err(Refusal(number)),
+        }
     }
 }
 
 #[cfg(test)]
 mod tests {
     use codec::Message;
+    use engine::relay::{PartnerConnections, NOBODY};
     use engine::{reasons, relay};
 
     use super::{Relay, Tables, RECORD_LENGTH, REPLY_LENGTH};
     use crate::{JumpingClock, KeptTerm, LeaseTerm, CLOCK_LIMIT, CONNECTIONS_EACH, PARTNERS};
+
+    /// Of all partners.
+    const CONNECTIONS: usize = PARTNERS * CONNECTIONS_EACH;
 
     /// Tables of a fresh relay with other numbers in a partner's record of the allowances, or in the last.
     fn tables(record: usize, numbers: [u64; 2]) -> Tables {
@@ -246,14 +267,14 @@ mod tests {
     fn reply(tables: &mut Tables, message: Message, random: u8) -> Vec<u8> {
         let (mut reply, mut relayed) = (vec![0; REPLY_LENGTH], [0; relay::BUFFER]);
         let (bytes, random) = (codec::encode(&message).expect("a message"), [random; relay::RANDOM]);
-        let answer = relay::message(tables.lend(), NOW, 0, &bytes, &random, &mut reply, &mut relayed);
+        let answer = relay::message(tables.lend(), 0, NOW, 0, &bytes, &random, &mut reply, &mut relayed);
         assert_eq!(answer.number, 0, "{message:?}");
         reply.truncate(answer.reply as usize);
         reply
     }
 
     fn open(tables: &mut Tables) {
-        assert_eq!(relay::open(tables.lend(), NOW, 0, &mut [0; REPLY_LENGTH]).number, 0);
+        assert_eq!(relay::open(tables.lend(), 0, NOW, 0, &mut [0; REPLY_LENGTH]).number, 0);
         reply(tables, Message::VersionAnswer { ok: 1 }, 0);
     }
 
@@ -264,7 +285,7 @@ mod tests {
         open(&mut tables);
         let given = reply(&mut tables, Message::LeaseRequest, 1);
         let extended = reply(&mut tables, Message::ExtensionRequest { cookie }, 0);
-        assert_eq!(relay::close(tables.lend(), NOW, 0, &mut [0; relay::BUFFER]).number, 0);
+        assert_eq!(relay::close(tables.lend(), 0, NOW, 0, &mut [0; relay::BUFFER]).number, 0);
         open(&mut tables);
         let renewed = reply(&mut tables, Message::LeaseRequestWithCookie { cookie }, 2);
         [given, extended, renewed].map(|reply| match codec::decode(&reply) {
@@ -291,5 +312,73 @@ mod tests {
             assert_eq!(tables.lease_term(), KeptTerm::Given(term));
             assert_eq!(engine_terms(tables), [term.seconds(); 3]);
         }
+    }
+
+    /// The numbers of the connections that aren't closed, as the tables have them.
+    fn open_numbers(relay: &Relay) -> Vec<usize> {
+        let records = relay.tables().view().connections.chunks_exact(relay::CONNECTIONS / CONNECTIONS);
+        records.enumerate().filter(|(_, record)| record[0] != 0).map(|(number, _)| number).collect()
+    }
+
+    /// Likewise as the map has them, which the host is told a partner at a time.
+    fn assert_map_agrees(relay: &Relay) {
+        let open = open_numbers(relay);
+        assert_eq!(relay.map, open.iter().map(|number| 1 << number).sum::<u64>(), "{open:?}");
+        for partner in 0..PARTNERS {
+            let numbers = partner * CONNECTIONS_EACH..(partner + 1) * CONNECTIONS_EACH;
+            let lowest = numbers.clone().find(|number| !open.contains(number)).map_or(NOBODY, |number| number as u32);
+            let connections = numbers.filter(|number| open.contains(number)).count() as u32;
+            let told = relay.connections_of(partner);
+            assert_eq!(told, PartnerConnections { number: 0, connections, lowest }, "{partner}: {open:?}");
+        }
+    }
+
+    #[test]
+    fn the_map_agrees_with_the_tables_after_every_call() {
+        let mut relay = Relay::fresh(Box::<JumpingClock>::default(), LeaseTerm::USUAL).expect("a relay");
+        let (mut reply, mut room) = ([0; REPLY_LENGTH], [0; relay::BUFFER]);
+        assert_map_agrees(&relay);
+        for number in (0..CONNECTIONS).rev() {
+            relay.open(number, &mut reply).expect("it is closed");
+            relay.open(number, &mut reply).expect_err("it is open");
+            assert_map_agrees(&relay);
+        }
+        for number in (0..CONNECTIONS).filter(|number| number % 3 > 0) {
+            match number % 3 {
+                1 => relay.close(number, &mut room),
+                _ => relay.message(number, &[1, 0], &[0; relay::RANDOM], &mut reply, &mut room),
+            }
+            .expect("it is open");
+            relay.close(number, &mut room).expect_err("it is closed");
+            assert_map_agrees(&relay);
+        }
+        // It is asked, and never answers.
+        while relay.keepalive(0, &mut reply, &mut room).expect("it is open").disconnect == 0 {
+            assert_map_agrees(&relay);
+        }
+        assert_map_agrees(&relay);
+        assert!(!open_numbers(&relay).contains(&0));
+    }
+
+    #[test]
+    fn a_restored_relay_has_all_numbers_free() {
+        let mut relay = Relay::fresh(Box::<JumpingClock>::default(), LeaseTerm::USUAL).expect("a relay");
+        for number in (0..CONNECTIONS).filter(|number| number % 3 == 0 || *number < CONNECTIONS_EACH) {
+            relay.open(number, &mut [0; REPLY_LENGTH]).expect("it is closed");
+        }
+        let restored = Relay::restored(Box::<JumpingClock>::default(), relay.tables().clone()).expect("a relay");
+        assert!(open_numbers(&restored).is_empty());
+        assert_map_agrees(&restored);
+    }
+
+    /// A record whose state is none counts as closed, and is opened like one.
+    #[test]
+    fn a_state_that_is_none_takes_no_number() {
+        let mut tables = fresh(LeaseTerm::USUAL);
+        tables.0[0] = 3;
+        let mut restored = Relay::restored(Box::<JumpingClock>::default(), tables).expect("a relay");
+        assert_eq!(restored.connections_of(0), PartnerConnections { number: 0, connections: 0, lowest: 0 });
+        restored.open(0, &mut [0; REPLY_LENGTH]).expect("it is closed");
+        assert_map_agrees(&restored);
     }
 }

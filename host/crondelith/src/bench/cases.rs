@@ -28,7 +28,7 @@ impl Case {
     /// Makes the calls once. Whether each got its answer.
     pub fn repeat<R: Relay>(&self, lent: &mut Lent) -> bool {
         lent.now += self.seconds;
-        self.calls.iter().all(|call| R::call(black_box(call), lent) == call.expected)
+        self.calls.iter().all(|call| call.is_answered_by(R::call(black_box(call), lent)))
     }
 
     /// Whether a batch left the reply that was meant.
@@ -141,15 +141,15 @@ impl Lent {
         };
         let Tables { connections, leases, allowances } = &mut tables;
         let lent = relay::Tables { connections, leases, allowances };
-        let answer = relay::fresh(lent, START, LeaseTerm::USUAL.seconds());
-        let random = random_bytes([FREE]);
-        let lent = Self { now: START, tables, random, reply: [0; BUFFER], relay: RelayBuffer::new(relay_length) };
+        let answer = relay::fresh(lent, 0, START, LeaseTerm::USUAL.seconds());
+        let (random, relay) = (random_bytes([FREE]), RelayBuffer::new(relay_length));
+        let lent = Self { now: START, tables, map: answer.map, random, reply: [0; BUFFER], relay };
         (answer == nothing()).then_some(lent)
     }
 
     /// Makes a call of the engine.
     fn make(&mut self, call: &Call) -> Option<()> {
-        (Engine::call(call, self) == call.expected).then_some(())
+        call.is_answered_by(Engine::call(call, self)).then_some(())
     }
 
     /// Opens a connection and answers the version message.
@@ -208,7 +208,7 @@ fn message(connection: u64, message: Message, expected: Answer) -> Option<Call> 
 
 /// Accepted, and nothing is sent.
 fn nothing() -> Answer {
-    Answer { number: 0, reply: 0, relay: 0, destination: NOBODY, disconnect: 0 }
+    Answer { number: 0, reply: 0, relay: 0, destination: NOBODY, disconnect: 0, map: 0 }
 }
 
 /// A reply of so many bytes.

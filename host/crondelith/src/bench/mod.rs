@@ -5,6 +5,7 @@ mod calls;
 mod cases;
 mod longest_lease;
 mod loopback;
+mod maps;
 mod measure;
 pub mod peers;
 mod relays;
@@ -120,8 +121,9 @@ impl Section {
 }
 
 /// The sections, in the table's order.
-const SECTIONS: [fn() -> Result<Section, Failure>; 6] = [
+const SECTIONS: [fn() -> Result<Section, Failure>; 7] = [
     calls::section,
+    maps::section,
     longest_lease::section,
     longest_lease::made_by_hand,
     sends::by_length,

@@ -4,11 +4,18 @@ use engine::relay::{self, Answer, BUFFER, RANDOM};
 use engine::RelayBuffer;
 use model::Tables;
 
-/// A call by a connection, and the answer that it must get.
+/// A call by a connection, and the answer that it must get, but for the map.
 pub struct Call {
     pub connection: u64,
     pub kind: Kind,
     pub expected: Answer,
+}
+
+impl Call {
+    /// Whether this is the answer. What becomes of the map is seen where it is kept, with the tables.
+    pub fn is_answered_by(&self, answer: Answer) -> bool {
+        Answer { map: self.expected.map, ..answer } == self.expected
+    }
 }
 
 pub enum Kind {
@@ -23,6 +30,8 @@ pub enum Kind {
 pub struct Lent {
     pub now: u64,
     pub tables: Tables,
+    /// The map of the connections, which goes with the tables.
+    pub map: u64,
     pub random: [u8; RANDOM],
     pub reply: [u8; BUFFER],
     pub relay: RelayBuffer,
@@ -37,6 +46,7 @@ impl Lent {
 }
 
 pub trait Relay {
+    /// Makes a call, and keeps the map that it gives back.
     fn call(call: &Call, lent: &mut Lent) -> Answer;
 }
 
@@ -50,15 +60,16 @@ impl Relay for Engine {
             leases: &mut lent.tables.leases,
             allowances: &mut lent.tables.allowances,
         };
-        let (now, connection) = (lent.now, call.connection);
-        match &call.kind {
-            Kind::Open => relay::open(tables, now, connection, &mut lent.reply),
-            Kind::Message(bytes) => {
-                relay::message(tables, now, connection, bytes, &lent.random, &mut lent.reply, &mut lent.relay)
-            }
-            Kind::Close => relay::close(tables, now, connection, &mut lent.relay),
-            Kind::Keepalive => relay::keepalive(tables, now, connection, &mut lent.reply, &mut lent.relay),
-        }
+        let (map, now, connection) = (lent.map, lent.now, call.connection);
+        let (reply, relay) = (&mut lent.reply, &mut lent.relay);
+        let answer = match &call.kind {
+            Kind::Open => relay::open(tables, map, now, connection, reply),
+            Kind::Message(bytes) => relay::message(tables, map, now, connection, bytes, &lent.random, reply, relay),
+            Kind::Close => relay::close(tables, map, now, connection, relay),
+            Kind::Keepalive => relay::keepalive(tables, map, now, connection, reply, relay),
+        };
+        lent.map = answer.map;
+        answer
     }
 }
 
@@ -67,15 +78,15 @@ pub struct Second;
 
 impl Relay for Second {
     fn call(call: &Call, lent: &mut Lent) -> Answer {
-        let (tables, now, connection) = (&mut lent.tables, lent.now, call.connection);
+        let (tables, map, now, connection) = (&mut lent.tables, lent.map, lent.now, call.connection);
+        let (reply, relay) = (&mut lent.reply, &mut lent.relay);
         let answer = match &call.kind {
-            Kind::Open => model::open(tables, now, connection, &mut lent.reply),
-            Kind::Message(bytes) => {
-                model::message(tables, now, connection, bytes, &lent.random, &mut lent.reply, &mut lent.relay)
-            }
-            Kind::Close => model::close(tables, now, connection, &mut lent.relay),
-            Kind::Keepalive => model::keepalive(tables, now, connection, &mut lent.reply, &mut lent.relay),
+            Kind::Open => model::open(tables, map, now, connection, reply),
+            Kind::Message(bytes) => model::message(tables, map, now, connection, bytes, &lent.random, reply, relay),
+            Kind::Close => model::close(tables, map, now, connection, relay),
+            Kind::Keepalive => model::keepalive(tables, map, now, connection, reply, relay),
         };
+        lent.map = answer.map;
         Answer::from(answer.numbers())
     }
 }

@@ -90,7 +90,7 @@ impl Comparison for Send {
     fn engine(&mut self) -> Option<Duration> {
         self.memory.clear();
         let call = self.case.calls.first()?;
-        let Lent { now, tables, random, reply, .. } = &mut self.lent;
+        let Lent { now, tables, map, random, reply, .. } = &mut self.lent;
         let (message, buffer) = self.memory.lend();
         let time = batch(|| {
             *now += self.case.seconds;
@@ -100,7 +100,9 @@ impl Comparison for Send {
                 allowances: &mut tables.allowances,
             };
             let (message, buffer) = (black_box(message), black_box(&mut *buffer));
-            relay::message(tables, *now, call.connection, message, random, reply, buffer) == call.expected
+            let answer = relay::message(tables, *map, *now, call.connection, message, random, reply, buffer);
+            *map = answer.map;
+            call.is_answered_by(answer)
         })?;
         (*buffer == *self.received).then_some(time)
     }

@@ -56,7 +56,8 @@ impl Call {
     pub fn due(&self, tables: &server::Tables) -> Option<Due> {
         let Action::Keepalive { .. } = self.action else { return None };
         let (mut copy, mut reply, mut relayed) = (tables.clone(), [0; BUFFER], [0; BUFFER]);
-        match relay::keepalive(copy.lend(), self.time, self.connection, &mut reply, &mut relayed) {
+        let map = relay::rebuild(tables.view().connections).map;
+        match relay::keepalive(copy.lend(), map, self.time, self.connection, &mut reply, &mut relayed) {
             Answer { number: 1.., .. } => None,
             Answer { disconnect: 1, .. } => Some(Due::Close),
             Answer { reply: 1.., .. } => Some(Due::Keepalive),

@@ -281,14 +281,17 @@ fn each_condition_of_a_lease_has_words() {
     }
 }
 
+/// What a call does doesn't depend on the map, which these tests don't keep.
+const NO_MAP: u64 = 0;
+
 /// The tables of a fresh relay with this term, on which the connection is open.
 fn fresh(term: u64) -> Tables {
     let mut tables = Tables::from_bytes(&[0; Tables::SIZE]).expect("tables");
     let (mut reply, mut relayed) = ([0; BUFFER], [0; BUFFER]);
     let answers = [
-        relay::fresh(tables.lend(), CLOCK, term),
-        relay::open(tables.lend(), CLOCK, CONNECTION, &mut reply),
-        relay::message(tables.lend(), CLOCK, CONNECTION, &[1, 1], &[0; RANDOM], &mut reply, &mut relayed),
+        relay::fresh(tables.lend(), NO_MAP, CLOCK, term),
+        relay::open(tables.lend(), NO_MAP, CLOCK, CONNECTION, &mut reply),
+        relay::message(tables.lend(), NO_MAP, CLOCK, CONNECTION, &[1, 1], &[0; RANDOM], &mut reply, &mut relayed),
     ];
     assert!(answers.iter().all(|answer| answer.number == 0), "{answers:?}");
     tables
@@ -297,7 +300,8 @@ fn fresh(term: u64) -> Tables {
 /// What a lease's reply has, at a time.
 fn engine_expiration(tables: &mut Tables, time: u64) -> Option<u64> {
     let (mut reply, mut relayed) = ([0; BUFFER], [0; BUFFER]);
-    let answer = relay::message(tables.lend(), time, CONNECTION, &[2, 0], &[0; RANDOM], &mut reply, &mut relayed);
+    let answer =
+        relay::message(tables.lend(), NO_MAP, time, CONNECTION, &[2, 0], &[0; RANDOM], &mut reply, &mut relayed);
     match codec::decode(&reply[..answer.reply as usize]) {
         Some(Message::LeaseGranted { expiration, .. }) => Some(expiration),
         _ => None,
@@ -323,8 +327,8 @@ fn a_session_has_no_end() {
     let mut tables = fresh(0);
     let other = CONNECTION + 1;
     let (mut reply, mut relayed) = ([0; BUFFER], [0; BUFFER]);
-    relay::open(tables.lend(), CLOCK, other, &mut reply);
-    relay::message(tables.lend(), CLOCK, other, &[1, 1], &[0; RANDOM], &mut reply, &mut relayed);
+    relay::open(tables.lend(), NO_MAP, CLOCK, other, &mut reply);
+    relay::message(tables.lend(), NO_MAP, CLOCK, other, &[1, 1], &[0; RANDOM], &mut reply, &mut relayed);
     engine_expiration(&mut tables, CLOCK).expect("a lease");
     // The id of random bytes that are zero.
     let establish = Call { connection: other, time: CLOCK, action: message(&[6, 0, 0, 0, 0]) };

@@ -76,7 +76,7 @@ fn said_with_descriptors(limit: &str) -> Option<String> {
 fn too_few_file_descriptors_are_found_at_the_start() {
     assert_eq!(said_with_descriptors("-S -n 40"), None, "it raises the limit itself");
     let said = said_with_descriptors("-n 40").expect("it can't run");
-    assert!(said.contains("the relay needs 168 file descriptors, and the limit is 40 (ulimit -n)"), "{said}");
+    assert!(said.contains("the relay needs 232 file descriptors, and the limit is 40 (ulimit -n)"), "{said}");
 }
 
 /// Seconds of CPU that a process has taken.

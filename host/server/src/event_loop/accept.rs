@@ -1,13 +1,15 @@
-//! Connections: from the listener to a number.
+//! Connections: from the listener to a place among those that are opened.
 
+use std::fmt::Display;
 use std::time::Duration;
 
-use mio::{Interest, Token};
+use mio::Interest;
 
 use super::EventLoop;
-use crate::connection::Connection;
+use crate::connection::{Connection, Phase};
 use crate::log::{Event, Place};
 use crate::port::Candidate;
+use crate::sockets::SocketId;
 use crate::CONNECTIONS_EACH;
 
 /// A peer that acknowledges nothing for so long has vanished. The engine finds it sooner, but asks nobody who is sent
@@ -17,8 +19,7 @@ const ACKNOWLEDGED_IN: Duration = Duration::from_secs(300);
 const REST: Duration = Duration::from_millis(100);
 
 impl EventLoop {
-    /// Accepts connections, as many as can have a number or wait for one. Numbers are given away here only: an event of
-    /// this turn may be about the connection that had one.
+    /// Accepts connections, as many as there is room for or may wait for it.
     pub(super) fn accept(&mut self) {
         self.freed = false;
         for partner in 0..self.partners.len() {
@@ -46,85 +47,63 @@ impl EventLoop {
         }
     }
 
-    /// Gives the numbers that are free to those who wait for one, the lowest first.
+    /// Takes in those who wait, the first of them first, while there is room.
     fn admit(&mut self, partner: usize) {
-        let numbers = partner * CONNECTIONS_EACH..(partner + 1) * CONNECTIONS_EACH;
-        for number in numbers {
-            if self.connections[number].is_none() {
-                let Some(candidate) = self.partners[partner].port.candidates.pop_front() else { return };
-                self.begin(number, candidate);
+        while let Some(deadline) = self.partners[partner].port.candidates.front().map(|first| first.deadline) {
+            let Some(socket) = self.room_for_one(partner) else { return self.wake_by(deadline) };
+            if let Some(candidate) = self.partners[partner].port.candidates.pop_front() {
+                self.begin(socket, candidate);
             }
         }
-        if let Some(deadline) = self.partners[partner].port.candidates.front().map(|first| first.deadline) {
-            self.wake_by(deadline);
-        }
+    }
+
+    /// A place for one more socket of a partner, if there is a number for it too when its turn to be opened comes.
+    fn room_for_one(&self, partner: usize) -> Option<SocketId> {
+        (self.numbers_in_use(partner) < CONNECTIONS_EACH).then(|| self.sockets.vacancy(partner))?
+    }
+
+    /// How many of a partner's numbers are taken, or will be by those who wait to be opened.
+    fn numbers_in_use(&self, partner: usize) -> usize {
+        self.relay.connections_of(partner).connections as usize + self.sockets.count(partner, Phase::Opening)
     }
 
     /// A connection begins: it is opened in its turn.
-    fn begin(&mut self, number: usize, Candidate { mut stream, address, .. }: Candidate) {
+    fn begin(&mut self, socket: SocketId, Candidate { mut stream, address, .. }: Candidate) {
         let interest = Interest::READABLE | Interest::WRITABLE;
-        if let Err(error) = self.poll.registry().register(&mut stream, Token(number), interest) {
-            self.log_partner(number / CONNECTIONS_EACH, "not accepted", format_args!("a connection failed: {error}"));
+        if let Err(error) = self.poll.registry().register(&mut stream, socket.token(), interest) {
+            self.log_partner(socket.partner(), "not accepted", format_args!("a connection failed: {error}"));
             return;
         }
-        self.connections[number] = Some(Connection::new(stream, address, self.now + self.limits.open));
-        self.log_connection(number, "connected", "connected");
-        self.partner_of(number).turns.join(number);
+        self.sockets.insert(socket, Connection::new(stream, address, self.now + self.limits.open));
+        self.partner_of(socket).turns.join(socket);
     }
 
-    /// Turns those away who have waited for a number long enough.
+    /// Turns those away who have waited for room long enough.
     pub(super) fn turn_away(&mut self) {
         for partner in 0..self.partners.len() {
+            // There may be room since this turn has begun.
+            self.admit(partner);
             let now = self.now;
             let port = &mut self.partners[partner].port;
             port.rests_until = port.rests_until.filter(|time| *time > now);
-            while let Some(Candidate { address, .. }) = port.next_overdue(now) {
+            while let Some(Candidate { address, .. }) = self.partners[partner].port.next_overdue(now) {
                 let event = Event { kind: "turned away", place: Place::Partner(partner) };
-                let text = format_args!("a connection is refused, all {CONNECTIONS_EACH} of this partner are in use");
-                self.log.record(event, Some(address), text);
+                self.log.record(event, Some(address), self.no_room(partner));
             }
         }
     }
 
-    fn log_partner(&self, partner: usize, kind: &'static str, text: impl std::fmt::Display) {
-        self.log.record(Event { kind, place: Place::Partner(partner) }, None, text);
-    }
-}
-
-#[cfg(test)]
-mod tests {
-    use std::net::TcpStream;
-    use std::sync::{mpsc, Arc};
-    use std::time::Duration;
-
-    use mio::Poll;
-    use socket2::SockRef;
-
-    use crate::event_loop::{EventLoop, Parts};
-    use crate::relay::Relay;
-    use crate::{bind_free, LeaseTerm, Limits, Log, LogFormat, SystemClock};
-
-    /// As README and DECISIONS tell it.
-    #[test]
-    fn tcp_gives_up_a_peer_after_300_seconds() {
-        let listeners = bind_free().expect("free ports");
-        let _peer = TcpStream::connect(listeners.addresses().expect("addresses")[0]).expect("it listens");
-        let parts = Parts {
-            poll: Poll::new().expect("a poll"),
-            listeners,
-            relay: Relay::fresh(Box::new(SystemClock::new()), LeaseTerm::USUAL).expect("a relay"),
-            log: Arc::new(Log::new(LogFormat::Text, |_| ())),
-            limits: Limits::default(),
-            saver: None,
-            commands: mpsc::channel().1,
-        };
-        let mut event_loop = EventLoop::new(parts).expect("a loop");
-        while event_loop.connections[0].is_none() {
-            event_loop.partners[0].port.ready.fill(true);
-            event_loop.accept();
+    /// Why there is no room for one more.
+    fn no_room(&self, partner: usize) -> impl Display {
+        if self.numbers_in_use(partner) < CONNECTIONS_EACH {
+            let ended = self.sockets.count(partner, Phase::Closing);
+            format!("a connection is refused, {ended} of this partner have ended and are still there")
+        } else {
+            format!("a connection is refused, all {CONNECTIONS_EACH} of this partner are in use")
         }
-        let connection = event_loop.connections[0].as_ref().expect("a connection");
-        let limit = SockRef::from(&connection.stream).tcp_user_timeout();
-        assert_eq!(limit.expect("an option"), Some(Duration::from_secs(300)));
+    }
+
+    fn log_partner(&self, partner: usize, kind: &'static str, text: impl Display) {
+        self.log.record(Event { kind, place: Place::Partner(partner) }, None, text);
     }
 }

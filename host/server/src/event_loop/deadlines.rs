@@ -5,6 +5,7 @@ use std::time::{Duration, Instant};
 use super::EventLoop;
 use crate::connection::{Connection, End, Hold, Phase};
 use crate::log::{Event, Place};
+use crate::sockets::SocketId;
 
 /// How often the state is saved and the clock compared with the machine's.
 const TICK: Duration = Duration::from_millis(500);
@@ -19,7 +20,7 @@ impl EventLoop {
         }
         self.retry_waiting();
         self.turn_away();
-        (0..self.connections.len()).for_each(|number| self.expire_connection(number));
+        self.for_each_socket(Self::expire_connection);
         self.check_peers();
         if self.tick <= self.now {
             self.tick = self.now + TICK;
@@ -32,7 +33,7 @@ impl EventLoop {
     fn next_deadline(&self) -> Instant {
         let ports = self.partners.iter().filter_map(|partner| partner.port.deadline());
         let patience = self.limits.patience;
-        let connections = self.connections.iter().flatten().flat_map(|connection| connection.deadlines(patience));
+        let connections = self.sockets.iter().flat_map(|connection| connection.deadlines(patience));
         let others = self.retry.into_iter().chain(self.stops).chain([self.next_check]);
         ports.chain(connections).chain(others).fold(self.tick, Instant::min)
     }
@@ -45,47 +46,47 @@ impl EventLoop {
         }
     }
 
-    fn expire_connection(&mut self, number: usize) {
+    fn expire_connection(&mut self, socket: SocketId) {
         let now = self.now;
-        let Some(connection) = &self.connections[number] else { return };
+        let Some(connection) = self.sockets.get(socket) else { return };
         if connection.due.is_some_and(|due| due <= now) {
-            self.expire_due(number);
+            self.expire_due(socket);
         }
-        self.expire_progress(number);
-        let Some(connection) = &mut self.connections[number] else { return };
+        self.expire_progress(socket);
+        let Some(connection) = self.sockets.get_mut(socket) else { return };
         if matches!(connection.hold, Some(Hold::Pause(until)) if until <= now) {
             connection.hold = None;
-            self.go_on(number);
+            self.go_on(socket);
         }
     }
 
     /// The peer hasn't sent what was expected of it, or hasn't closed its side.
-    fn expire_due(&mut self, number: usize) {
-        let Some(connection) = &mut self.connections[number] else { return };
+    fn expire_due(&mut self, socket: SocketId) {
+        let Some(connection) = self.sockets.get_mut(socket) else { return };
         let phase = connection.phase;
         if phase == Phase::Closing {
-            self.free(number);
+            self.free(socket);
         } else if connection.input.message().is_some() {
             // A message that has come in time may wait for its turn.
             connection.due = Some(self.now + self.limits.frame);
         } else {
-            self.end(number, End::Silent(phase));
+            self.end(socket, End::Silent(phase));
         }
     }
 
     /// Gives up a peer that has taken next to nothing of what waits for it.
-    fn expire_progress(&mut self, number: usize) {
-        if self.is_stalled(number) {
+    fn expire_progress(&mut self, socket: SocketId) {
+        if self.is_stalled(socket) {
             // The kernel tells late that there is room again.
-            self.write(number);
+            self.write(socket);
         }
-        if self.is_stalled(number) {
-            self.end(number, End::GivenUp);
+        if self.is_stalled(socket) {
+            self.end(socket, End::GivenUp);
         }
     }
 
-    fn is_stalled(&self, number: usize) -> bool {
-        let progress = self.connections[number].as_ref().and_then(|connection| connection.progress);
+    fn is_stalled(&self, socket: SocketId) -> bool {
+        let progress = self.sockets.get(socket).and_then(|connection| connection.progress);
         progress.is_some_and(|progress| progress.since + self.limits.patience <= self.now)
     }
 

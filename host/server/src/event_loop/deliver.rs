@@ -4,43 +4,52 @@ use engine::relay::{Answer, NOBODY};
 
 use super::EventLoop;
 use crate::message::{ESTABLISH_REQUEST, SESSION_END};
+use crate::sockets::SocketId;
 
 impl EventLoop {
     /// What is replied stands in the reply buffer.
-    pub(super) fn deliver_reply(&mut self, caller: usize, answer: Answer) {
+    pub(super) fn deliver_reply(&mut self, caller: SocketId, answer: Answer) {
         if answer.reply > 0 {
-            self.outputs[caller].append(&self.reply[..answer.reply as usize], &mut self.spare_outputs);
+            let reply = &self.reply[..answer.reply as usize];
+            self.outputs[caller.place()].append(reply, &mut self.spare_outputs);
             self.note_filled(caller);
         }
     }
 
     /// What is relayed stands in the room of an output, or else in the scratch buffer.
-    pub(super) fn deliver_relay(&mut self, answer: Answer, output: Option<usize>) {
-        let Some(destination) = destination(answer) else { return };
+    pub(super) fn deliver_relay(&mut self, answer: Answer, output: Option<SocketId>) {
+        let Some(destination) = self.destination(answer) else { return };
         let length = answer.relay as usize;
+        let place = destination.place();
         match output {
-            Some(output) if output == destination => self.outputs[destination].commit(length),
+            Some(output) if output == destination => self.outputs[place].commit(length),
             Some(output) => {
                 // Not met: the host pairs as the engine does.
-                let copy = self.outputs[output].room(length, &mut self.spare_outputs).to_vec();
-                self.outputs[destination].append(&copy, &mut self.spare_outputs);
+                let copy = self.outputs[output.place()].room(length, &mut self.spare_outputs).to_vec();
+                self.outputs[place].append(&copy, &mut self.spare_outputs);
             }
-            None => self.outputs[destination].append(&self.scratch[..length], &mut self.spare_outputs),
+            None => self.outputs[place].append(&self.scratch[..length], &mut self.spare_outputs),
         }
         self.note_filled(destination);
     }
 
-    /// Something was added to this connection's output. Most often it was the last one too.
-    fn note_filled(&mut self, number: usize) {
-        if self.filled.last() != Some(&number) {
-            self.filled.push(number);
+    /// The socket that something is relayed to: the one that has the destination's number now.
+    fn destination(&self, answer: Answer) -> Option<SocketId> {
+        let is_relayed = answer.relay > 0 && answer.destination != NOBODY;
+        is_relayed.then(|| self.sockets.numbered(answer.destination as usize))?
+    }
+
+    /// Something was added to this one's output. Most often it was the last one too.
+    fn note_filled(&mut self, socket: SocketId) {
+        if self.filled.last() != Some(&socket) {
+            self.filled.push(socket);
         }
     }
 
     /// Sessions, as the engine has them: one begins with the notification of its establishing, and ends with that of its
     /// end.
-    pub(super) fn follow_session(&mut self, caller: usize, kind: Option<u8>, answer: Answer) {
-        let Some(destination) = destination(answer) else { return };
+    pub(super) fn follow_session(&mut self, caller: SocketId, kind: Option<u8>, answer: Answer) {
+        let Some(destination) = self.destination(answer) else { return };
         match kind {
             Some(ESTABLISH_REQUEST) => self.pair(caller, destination),
             Some(SESSION_END) => self.part(caller),
@@ -48,38 +57,33 @@ impl EventLoop {
         }
     }
 
-    fn pair(&mut self, one: usize, other: usize) {
-        for (number, paired) in [(one, other), (other, one)] {
-            if let Some(connection) = &mut self.connections[number] {
+    fn pair(&mut self, one: SocketId, other: SocketId) {
+        for (socket, paired) in [(one, other), (other, one)] {
+            if let Some(connection) = self.sockets.get_mut(socket) {
                 connection.paired = Some(paired);
             }
         }
     }
 
     /// Ends a connection's session, if it has one.
-    pub(super) fn part(&mut self, number: usize) {
-        let paired = self.connections[number].as_mut().and_then(|connection| connection.paired.take());
-        if let Some(other) = paired.and_then(|paired| self.connections[paired].as_mut()) {
+    pub(super) fn part(&mut self, socket: SocketId) {
+        let paired = self.sockets.get_mut(socket).and_then(|connection| connection.paired.take());
+        if let Some(other) = paired.and_then(|paired| self.sockets.get_mut(paired)) {
             other.paired = None;
         }
     }
 
-    /// The output that an accepted call has left full, after as much as possible of it is written.
-    pub(super) fn full_output(&mut self, caller: usize, answer: Answer) -> Option<usize> {
+    /// The one whose output an accepted call has left full, after as much as possible of it is written.
+    pub(super) fn full_output(&mut self, caller: SocketId, answer: Answer) -> Option<SocketId> {
         let replied = (answer.reply > 0).then_some(caller);
-        let mut filled = [destination(answer), replied].into_iter().flatten();
-        filled.find(|number| self.stays_full(*number))
+        let mut filled = [self.destination(answer), replied].into_iter().flatten();
+        filled.find(|socket| self.stays_full(*socket))
     }
 
-    fn stays_full(&mut self, number: usize) -> bool {
-        if self.outputs[number].is_full() {
-            self.write(number);
+    fn stays_full(&mut self, socket: SocketId) -> bool {
+        if self.output_of(socket).is_full() {
+            self.write(socket);
         }
-        self.outputs[number].is_full()
+        self.output_of(socket).is_full()
     }
-}
-
-/// The connection that something is relayed to.
-fn destination(answer: Answer) -> Option<usize> {
-    (answer.relay > 0 && answer.destination != NOBODY).then_some(answer.destination as usize)
 }

@@ -8,6 +8,7 @@ use engine::relay::Answer;
 use super::EventLoop;
 use crate::calls::relay_length;
 use crate::connection::{Connection, End};
+use crate::sockets::SocketId;
 
 impl EventLoop {
     pub(super) fn check_peers(&mut self) {
@@ -20,37 +21,36 @@ impl EventLoop {
             // A Keepalive has perhaps just been written whose time is that of before.
             self.next_check += self.limits.standstill;
         } else {
-            (0..self.connections.len()).for_each(|number| self.check_peer(number));
+            self.for_each_socket(Self::check_peer);
         }
     }
 
-    fn check_peer(&mut self, number: usize) {
-        if !self.is_silent(number) {
-            return;
-        }
+    fn check_peer(&mut self, socket: SocketId) {
+        let Some(number) = self.silent_number(socket) else { return };
         let room = &mut self.scratch[..relay_length(0)];
         match self.relay.keepalive(number, &mut self.reply, room) {
-            Ok(answer) => self.follow_check(number, answer),
-            Err(refusal) => self.end(number, End::Refused(refusal)),
+            Ok(answer) => self.follow_check(socket, answer),
+            Err(refusal) => self.end(socket, End::Refused(refusal)),
         }
     }
 
-    /// Whether a peer can be judged by its silence. While something waits with the relay it can't: its answer may be among
-    /// what has come from it, and waits for allowance or for a full output; and behind what isn't written to it a
-    /// Keepalive couldn't be read in time. What waits has an end of its own: the partner's turns, a slow reader's
-    /// deadline, that of a frame.
-    fn is_silent(&self, number: usize) -> bool {
-        let Some(connection) = &self.connections[number] else { return false };
-        connection.is_opened() && self.outputs[number].is_empty() && connection.is_heard_out()
+    /// The number of a connection whose peer can be judged by its silence. While something waits with the relay
+    /// it can't: its answer may be among what has come from it, and waits for allowance or for a full output; and behind
+    /// what isn't written to it a Keepalive couldn't be read in time. What waits has an end of its own: the partner's
+    /// turns, a slow reader's deadline, that of a frame.
+    fn silent_number(&self, socket: SocketId) -> Option<usize> {
+        let connection = self.sockets.get(socket)?;
+        let number = connection.number?;
+        (self.outputs[socket.place()].is_empty() && connection.is_heard_out()).then_some(number)
     }
 
     /// Does what the engine says. Of the checks only one that closes its connection counts as a call done.
-    fn follow_check(&mut self, number: usize, answer: Answer) {
-        self.deliver_reply(number, answer);
+    fn follow_check(&mut self, socket: SocketId, answer: Answer) {
+        self.deliver_reply(socket, answer);
         self.deliver_relay(answer, None);
         if answer.disconnect != 0 {
-            self.partner_of(number).statistics.done += 1;
-            self.end(number, End::Unanswered);
+            self.partner_of(socket).statistics.done += 1;
+            self.end(socket, End::Unanswered);
         }
     }
 }

@@ -12,6 +12,8 @@ mod keepalives;
 mod read;
 mod serve;
 mod stop;
+#[cfg(test)]
+mod tests;
 mod write;
 
 use std::fmt::Display;
@@ -26,7 +28,6 @@ use mio::{Events, Interest, Poll, Token};
 
 use crate::buffer_pool::BufferPool;
 use crate::calls::REPLY_LENGTH;
-use crate::connection::Connection;
 use crate::limits::Limits;
 use crate::log::{self, Log, Place, Said};
 use crate::output::Output;
@@ -35,16 +36,15 @@ use crate::random::Random;
 use crate::relay::Relay;
 use crate::saver::Saver;
 use crate::server::Command;
+use crate::sockets::{SocketId, Sockets, PLACES};
 use crate::statistics::Statistics;
 use crate::turns::Turns;
-use crate::{input, output, CONNECTIONS_EACH, PARTNERS};
+use crate::{input, output};
 
-/// All partners' connections.
-const CONNECTIONS: usize = PARTNERS * CONNECTIONS_EACH;
 /// Events that are taken at a time.
 const EVENTS: usize = 256;
-/// Connections have their numbers as tokens, listeners the numbers that follow.
-const FIRST_LISTENER: usize = CONNECTIONS;
+/// Connections' sockets have their ids as tokens, which never come so far; listeners have the numbers from here on.
+const FIRST_LISTENER: usize = 1 << (usize::BITS - 1);
 pub const WAKER: Token = Token(usize::MAX);
 
 pub struct EventLoop {
@@ -55,8 +55,8 @@ pub struct EventLoop {
     limits: Limits,
     saver: Option<Saver>,
     commands: Receiver<Command>,
-    connections: Vec<Option<Connection>>,
-    /// Apart from the connections: a message of one is written into the output of another.
+    sockets: Sockets,
+    /// By the sockets' places, and apart from them: a message of one is written into the output of another.
     outputs: Vec<Output>,
     spare_inputs: BufferPool,
     spare_outputs: BufferPool,
@@ -67,11 +67,11 @@ pub struct EventLoop {
     partners: Vec<Partner>,
     /// The one that is served first in the next turn.
     first_partner: usize,
-    /// Connections that can be read.
-    ready: Vec<usize>,
-    /// Connections whose output something was added to.
-    filled: Vec<usize>,
-    /// A number is free that somebody may wait for.
+    /// Those that can be read.
+    ready: Vec<SocketId>,
+    /// Those whose output something was added to.
+    filled: Vec<SocketId>,
+    /// A number or a place is free that somebody may wait for.
     freed: bool,
     /// When this turn began.
     now: Instant,
@@ -120,8 +120,8 @@ impl EventLoop {
             limits,
             saver,
             commands,
-            connections: (0..CONNECTIONS).map(|_| None).collect(),
-            outputs: (0..CONNECTIONS).map(|_| Output::default()).collect(),
+            sockets: Sockets::new(),
+            outputs: (0..PLACES).map(|_| Output::default()).collect(),
             spare_inputs: BufferPool::new(input::CAPACITY),
             spare_outputs: BufferPool::new(output::CAPACITY),
             reply: [0; REPLY_LENGTH],
@@ -195,13 +195,13 @@ impl EventLoop {
     fn handle_event(&mut self, event: &Event) {
         match event.token() {
             WAKER => {}
-            Token(number) if number < FIRST_LISTENER => self.handle_connection_event(number, event),
-            Token(listener) => {
+            Token(listener) if listener >= FIRST_LISTENER => {
                 let mut flags = self.partners.iter_mut().flat_map(|partner| &mut partner.port.ready);
                 if let Some(ready) = flags.nth(listener - FIRST_LISTENER) {
                     *ready = true;
                 }
             }
+            token => self.handle_socket_event(SocketId::of(token), event),
         }
     }
 
@@ -209,8 +209,21 @@ impl EventLoop {
         self.partners.iter().map(|partner| partner.statistics).collect()
     }
 
-    fn partner_of(&mut self, connection: usize) -> &mut Partner {
-        &mut self.partners[connection / CONNECTIONS_EACH]
+    fn partner_of(&mut self, socket: SocketId) -> &mut Partner {
+        &mut self.partners[socket.partner()]
+    }
+
+    fn output_of(&mut self, socket: SocketId) -> &mut Output {
+        &mut self.outputs[socket.place()]
+    }
+
+    /// Does something with each socket.
+    fn for_each_socket(&mut self, act: impl Fn(&mut Self, SocketId)) {
+        for place in 0..PLACES {
+            if let Some(socket) = self.sockets.at(place) {
+                act(self, socket);
+            }
+        }
     }
 
     /// Wakes the loop by then.
@@ -218,12 +231,15 @@ impl EventLoop {
         self.earliest = self.earliest.min(deadline);
     }
 
-    fn log_connection(&self, number: usize, kind: &'static str, text: impl Display) {
-        self.log_connection_with(number, kind, || Said { text, number: None });
+    fn log_connection(&self, socket: SocketId, kind: &'static str, text: impl Display) {
+        self.log_connection_with(socket, kind, || Said { text, number: None });
     }
 
-    fn log_connection_with<T: Display>(&self, number: usize, kind: &'static str, say: impl FnOnce() -> Said<T>) {
-        let peer = self.connections[number].as_ref().map(|connection| connection.address);
-        self.log.record_with(log::Event { kind, place: Place::Connection(number) }, peer, say);
+    /// A line about a connection names its number; before it is opened it has none, and its partner and its peer tell it.
+    fn log_connection_with<T: Display>(&self, socket: SocketId, kind: &'static str, say: impl FnOnce() -> Said<T>) {
+        let connection = self.sockets.get(socket);
+        let number = connection.and_then(|connection| connection.number);
+        let place = number.map_or(Place::Partner(socket.partner()), Place::Connection);
+        self.log.record_with(log::Event { kind, place }, connection.map(|connection| connection.address), say);
     }
 }

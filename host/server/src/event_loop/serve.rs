@@ -10,6 +10,7 @@ use crate::connection::{Connection, End, Hold, Phase};
 use crate::log::Said;
 use crate::message::{DATA_SEND, ESTABLISH_REQUEST, LEASE_REQUEST};
 use crate::refusal::{Consequence, Refusal, ShortRefusal};
+use crate::sockets::SocketId;
 
 /// What a partner's messages may cost in a turn if no other has any: so much that the turn's own cost hardly counts. It is
 /// about as much as two sends of the largest size, which is what a connection's input holds.
@@ -44,76 +45,86 @@ impl EventLoop {
     fn serve_partner(&mut self, partner: usize, share: usize) {
         let mut spent = 0;
         while spent < share {
-            let Some(number) = self.partners[partner].turns.next() else { return };
-            spent += self.serve_connection(number, share - spent);
+            let Some(socket) = self.partners[partner].turns.next() else { return };
+            spent += self.serve_connection(socket, share - spent);
         }
     }
 
     /// Offers what the connection has whose turn it is, as far as it can afford it. Gives what that cost.
-    fn serve_connection(&mut self, number: usize, share: usize) -> usize {
-        let credit = self.partner_of(number).turns.credit(number);
+    fn serve_connection(&mut self, socket: SocketId, share: usize) -> usize {
+        let credit = self.partner_of(socket).turns.credit(socket);
         let mut spent = 0;
         while spent < share {
-            let cost = greatest_cost(self.next_message(number));
+            let cost = greatest_cost(self.next_message(socket));
             if spent + cost > credit {
-                self.partner_of(number).turns.pass_on(number);
+                self.partner_of(socket).turns.pass_on(socket);
                 break;
             }
-            self.offer_next(number);
-            if self.partner_of(number).turns.waiting {
+            self.offer_next(socket);
+            if self.partner_of(socket).turns.waiting {
                 break;
             }
             spent += cost;
-            if !self.has_more(number) {
-                self.go_on(number);
+            if !self.has_more(socket) {
+                self.go_on(socket);
                 break;
             }
         }
-        self.partner_of(number).turns.spend(number, spent);
+        self.partner_of(socket).turns.spend(socket, spent);
         spent
     }
 
     /// What a connection offers next: an open is no message.
-    fn next_message(&self, number: usize) -> Option<&[u8]> {
-        self.connections[number].as_ref().and_then(|connection| connection.input.message())
+    fn next_message(&self, socket: SocketId) -> Option<&[u8]> {
+        self.sockets.get(socket).and_then(|connection| connection.input.message())
     }
 
     /// Whether the next message of a connection can be offered in the same turn.
-    fn has_more(&self, number: usize) -> bool {
-        let Some(connection) = &self.connections[number] else { return false };
+    fn has_more(&self, socket: SocketId) -> bool {
+        let Some(connection) = self.sockets.get(socket) else { return false };
         connection.is_taken_from() && connection.input.message().is_some() && !connection.has_session_end()
     }
 
-    fn offer_next(&mut self, number: usize) {
-        match &self.connections[number] {
-            Some(connection) if connection.phase == Phase::Opening => self.open(number),
-            _ => self.offer(number),
+    fn offer_next(&mut self, socket: SocketId) {
+        match self.sockets.get(socket) {
+            Some(connection) if connection.phase == Phase::Opening => self.open(socket),
+            _ => self.offer(socket),
         }
     }
 
-    fn open(&mut self, number: usize) {
+    /// Opens a connection under the lowest number of its partner that the engine has closed. One that is refused has no
+    /// number: when it is tried again, another may be the lowest.
+    fn open(&mut self, socket: SocketId) {
+        let number = self.next_number(socket);
         match self.relay.open(number, &mut self.reply) {
             Ok(answer) => {
+                self.sockets.give_number(socket, number);
                 let due = self.now + self.limits.version;
-                let Some(connection) = &mut self.connections[number] else { return };
+                let Some(connection) = self.sockets.get_mut(socket) else { return };
                 (connection.phase, connection.due, connection.waits) = (Phase::Greeted, Some(due), false);
+                self.log_connection(socket, "connected", "connected");
                 self.wake_by(due);
-                self.count_done(number, 0);
-                self.deliver_reply(number, answer);
+                self.count_done(socket, 0);
+                self.deliver_reply(socket, answer);
             }
-            Err(refusal) => self.refused(number, &NOT_RANDOM, refusal),
+            Err(refusal) => self.refused(socket, &NOT_RANDOM, refusal),
         }
+    }
+
+    /// The number that its connection is opened under. Not met: there is none, and an open of NOBODY is refused.
+    fn next_number(&self, socket: SocketId) -> usize {
+        self.relay.connections_of(socket.partner()).lowest as usize
     }
 
     /// Offers the first message of a connection to the engine and acts on the answer.
-    pub(super) fn offer(&mut self, number: usize) {
-        let Some(connection) = &mut self.connections[number] else { return };
-        let Some(message) = connection.input.message() else { return };
+    pub(super) fn offer(&mut self, socket: SocketId) {
+        let Some(connection) = self.sockets.get_mut(socket) else { return };
+        let (Some(number), Some(message)) = (connection.number, connection.input.message()) else { return };
         let (length, kind) = (message.len(), message.first().copied());
         let random = match kind.filter(|kind| NEEDS_RANDOM.contains(kind)) {
             Some(_) => match self.random.take() {
                 Ok(random) => random,
-                Err(error) => return self.end(number, End::Failed(error)),
+                Err(error) => return self.end(socket, End::Failed(error)),
             },
             None => &NOT_RANDOM,
         };
@@ -121,99 +132,101 @@ impl EventLoop {
         let output = connection.paired.filter(|_| kind == Some(DATA_SEND));
         let room = relay_length(length);
         let relay = match output {
-            Some(paired) => self.outputs[paired].room(room, &mut self.spare_outputs),
+            Some(paired) => self.outputs[paired.place()].room(room, &mut self.spare_outputs),
             None => &mut self.scratch[..room],
         };
         let answer = match self.relay.message(number, message, random, &mut self.reply, relay) {
             Ok(answer) => answer,
             Err(refusal) => {
                 let random = *random;
-                return self.refused(number, &random, refusal);
+                return self.refused(socket, &random, refusal);
             }
         };
         connection.take();
-        self.count_done(number, length);
-        self.deliver_reply(number, answer);
+        self.count_done(socket, length);
+        self.deliver_reply(socket, answer);
         self.deliver_relay(answer, output);
         if kind != Some(DATA_SEND) {
-            self.follow(number, kind, answer);
+            self.follow(socket, kind, answer);
         }
-        self.keep_bound(number, answer);
+        self.keep_bound(socket, answer);
     }
 
-    fn count_done(&mut self, number: usize, length: usize) {
-        let statistics = &mut self.partner_of(number).statistics;
+    fn count_done(&mut self, socket: SocketId, length: usize) {
+        let statistics = &mut self.partner_of(socket).statistics;
         statistics.done += 1;
         statistics.bytes += length as u64;
     }
 
     /// What else follows from an accepted message that isn't data.
-    fn follow(&mut self, number: usize, kind: Option<u8>, answer: Answer) {
-        self.follow_session(number, kind, answer);
-        let Some(connection) = &mut self.connections[number] else { return };
+    fn follow(&mut self, socket: SocketId, kind: Option<u8>, answer: Answer) {
+        self.follow_session(socket, kind, answer);
+        let Some(connection) = self.sockets.get_mut(socket) else { return };
         if connection.phase == Phase::Greeted {
             (connection.phase, connection.due) = (Phase::Open, None);
         }
         if answer.disconnect != 0 {
-            self.end(number, End::OtherVersion);
+            self.end(socket, End::OtherVersion);
         }
     }
 
     /// Takes nothing more from a connection whose message has left an output full.
-    fn keep_bound(&mut self, number: usize, answer: Answer) {
-        if let Some(full) = self.full_output(number, answer) {
-            self.hold(number, Hold::Output(full));
+    fn keep_bound(&mut self, socket: SocketId, answer: Answer) {
+        if let Some(full) = self.full_output(socket, answer) {
+            self.hold(socket, Hold::Output(full));
         }
     }
 
     /// What a connection offered, with these random bytes, is refused. It has still to be taken.
-    fn refused(&mut self, number: usize, random: &[u8; RANDOM], refusal: Refusal) {
+    fn refused(&mut self, socket: SocketId, random: &[u8; RANDOM], refusal: Refusal) {
         match refusal.consequence() {
-            Consequence::Wait => self.wait_for_allowance(number, random, refusal),
+            Consequence::Wait => self.wait_for_allowance(socket, random, refusal),
             Consequence::Drop => {
-                self.partner_of(number).statistics.dropped += 1;
-                self.log_connection(number, "dropped", refusal);
-                let length = self.next_message(number).map_or(0, <[u8]>::len);
+                self.partner_of(socket).statistics.dropped += 1;
+                self.log_connection(socket, "dropped", refusal);
+                let length = self.next_message(socket).map_or(0, <[u8]>::len);
                 let pause = PAUSE * length.div_ceil(PAUSE_BYTES).max(1) as u32;
-                self.connections[number].iter_mut().for_each(Connection::take);
-                self.hold(number, Hold::Pause(self.now + pause));
+                self.sockets.get_mut(socket).into_iter().for_each(Connection::take);
+                self.hold(socket, Hold::Pause(self.now + pause));
             }
-            Consequence::Close => self.end(number, End::Refused(refusal)),
+            Consequence::Close => self.end(socket, End::Refused(refusal)),
         }
     }
 
     /// A level changes only with the second, so it is tried again with each: three pay for any call. Until then the
     /// connection keeps its partner's turn.
-    fn wait_for_allowance(&mut self, number: usize, random: &[u8; RANDOM], refusal: Refusal) {
+    fn wait_for_allowance(&mut self, socket: SocketId, random: &[u8; RANDOM], refusal: Refusal) {
         let retry = self.now + self.relay.clock().until_next();
         let retry = *self.retry.get_or_insert(retry);
         self.wake_by(retry);
-        self.partner_of(number).turns.waiting = true;
-        let Some(connection) = &mut self.connections[number] else { return };
+        self.partner_of(socket).turns.waiting = true;
+        let Some(connection) = self.sockets.get_mut(socket) else { return };
         if !std::mem::replace(&mut connection.waits, true) {
-            self.partner_of(number).statistics.waited += 1;
-            self.log_connection_with(number, "waits", || {
-                let shortfall = self.shortfall(number, random);
+            // The line of an open has no number that could tell what it is about.
+            let subject = if connection.number.is_none() { "its open is " } else { "" };
+            self.partner_of(socket).statistics.waited += 1;
+            self.log_connection_with(socket, "waits", || {
+                let shortfall = self.shortfall(socket, random);
                 let number = shortfall.map(|units| ("shortfall", units));
-                Said { text: ShortRefusal { refusal, shortfall }, number }
+                Said { text: format!("{subject}{}", ShortRefusal { refusal, shortfall }), number }
             });
         }
     }
 
     /// What the partner is short of for what a connection has just offered with these random bytes.
-    fn shortfall(&self, number: usize, random: &[u8; RANDOM]) -> Option<u64> {
-        let connection = self.connections[number].as_ref()?;
-        let reason = match connection.phase {
-            Phase::Opening => self.relay.explain_open(number),
-            _ => self.relay.explain_message(number, connection.input.message()?, random),
+    fn shortfall(&self, socket: SocketId, random: &[u8; RANDOM]) -> Option<u64> {
+        let connection = self.sockets.get(socket)?;
+        let reason = match connection.number {
+            None => self.relay.explain_open(self.next_number(socket)),
+            Some(number) => self.relay.explain_message(number, connection.input.message()?, random),
         };
         reason.shortfall()
     }
 
     /// Takes nothing from a connection for a while.
-    fn hold(&mut self, number: usize, hold: Hold) {
-        self.partner_of(number).turns.leave(number);
-        let Some(connection) = &mut self.connections[number] else { return };
+    fn hold(&mut self, socket: SocketId, hold: Hold) {
+        self.partner_of(socket).turns.leave(socket);
+        let Some(connection) = self.sockets.get_mut(socket) else { return };
         connection.hold = Some(hold);
         if let Hold::Pause(until) = hold {
             self.wake_by(until);

@@ -4,6 +4,7 @@ use super::EventLoop;
 use crate::connection::End;
 use crate::log::{Event, Place};
 use crate::server::Command;
+use crate::sockets::Sockets;
 use crate::statistics::Statistics;
 
 impl EventLoop {
@@ -26,17 +27,17 @@ impl EventLoop {
         for partner in &mut self.partners {
             partner.port.shut();
         }
-        (0..self.connections.len()).for_each(|number| self.end(number, End::Stopped));
+        self.for_each_socket(|own, socket| own.end(socket, End::Stopped));
     }
 
     pub(super) fn is_over(&self) -> bool {
         let Some(deadline) = self.stops else { return false };
-        self.now >= deadline || self.connections.iter().all(Option::is_none)
+        self.now >= deadline || self.sockets.iter().next().is_none()
     }
 
     /// Saves the state, and writes to the log what each partner got.
     pub(super) fn finish(&mut self) {
-        self.connections.iter_mut().for_each(|connection| drop(connection.take()));
+        self.sockets = Sockets::new();
         if let Some(saver) = self.saver.take() {
             saver.finish(self.relay.tables());
         }

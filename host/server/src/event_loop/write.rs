@@ -2,40 +2,39 @@
 
 use super::EventLoop;
 use crate::connection::{End, Hold, Phase, Progress};
-use crate::CONNECTIONS_EACH;
+use crate::sockets::{places_of, SocketId};
 
 impl EventLoop {
     /// Writes every output that something was added to.
     pub(super) fn write_filled(&mut self) {
-        while let Some(number) = self.filled.pop() {
-            self.write(number);
+        while let Some(socket) = self.filled.pop() {
+            self.write(socket);
         }
     }
 
     /// Writes as much of a connection's output as its stream takes.
-    pub(super) fn write(&mut self, number: usize) {
-        let output = &mut self.outputs[number];
-        let Some(connection) = &mut self.connections[number] else {
-            return output.clear(&mut self.spare_outputs);
-        };
+    pub(super) fn write(&mut self, socket: SocketId) {
+        let Some(connection) = self.sockets.get_mut(socket) else { return };
+        let output = &mut self.outputs[socket.place()];
         if output.is_empty() {
             return;
         }
         match output.write_to(&mut connection.stream, &mut self.spare_outputs) {
-            Ok(count) => self.written(number, count),
-            Err(error) => self.end(number, End::Failed(error)),
+            Ok(count) => self.written(socket, count),
+            Err(error) => self.end(socket, End::Failed(error)),
         }
     }
 
-    fn written(&mut self, number: usize, count: usize) {
-        let Some(connection) = &mut self.connections[number] else { return };
-        if self.outputs[number].is_empty() {
+    fn written(&mut self, socket: SocketId, count: usize) {
+        let Some(connection) = self.sockets.get_mut(socket) else { return };
+        let output = &self.outputs[socket.place()];
+        if output.is_empty() {
             connection.progress = None;
             if connection.phase == Phase::Closing {
-                return self.say_goodbye(number);
+                return self.say_goodbye(socket);
             }
-        } else if self.outputs[number].is_excessive() {
-            return self.end(number, End::GivenUp);
+        } else if output.is_excessive() {
+            return self.end(socket, End::GivenUp);
         } else {
             // What the kernel took before it was full is no progress of the peer's.
             match &mut connection.progress {
@@ -44,17 +43,17 @@ impl EventLoop {
             }
             self.wake_by(self.now + self.limits.patience);
         }
-        if !self.outputs[number].is_full() {
-            self.release_senders(number);
+        if !self.output_of(socket).is_full() {
+            self.release_senders(socket);
         }
     }
 
-    /// Goes on with those who were held because of this connection's output.
-    pub(super) fn release_senders(&mut self, number: usize) {
-        let first = number / CONNECTIONS_EACH * CONNECTIONS_EACH;
-        for sender in first..first + CONNECTIONS_EACH {
-            let Some(connection) = &mut self.connections[sender] else { continue };
-            if connection.hold == Some(Hold::Output(number)) {
+    /// Goes on with those who were held because of this one's output.
+    pub(super) fn release_senders(&mut self, socket: SocketId) {
+        for place in places_of(socket.partner()) {
+            let Some(sender) = self.sockets.at(place) else { continue };
+            let Some(connection) = self.sockets.get_mut(sender) else { continue };
+            if connection.hold == Some(Hold::Output(socket)) {
                 connection.hold = None;
                 self.go_on(sender);
             }

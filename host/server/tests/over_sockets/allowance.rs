@@ -14,9 +14,17 @@ static DATA: [u8; 65_504 / 2 - 1] = [7; 65_504 / 2 - 1];
 
 /// The log's line of a wait of partner 0.
 pub fn waits(connection: usize, short: u64) -> String {
+    format!("partner 0, connection {connection}: {}", refused(short))
+}
+
+/// Likewise of a connection that isn't opened yet, and so has no number.
+pub fn open_waits(short: u64) -> String {
+    format!("partner 0: its open is {}", refused(short))
+}
+
+fn refused(short: u64) -> String {
     let units = if short == 1 { "unit" } else { "units" };
-    let used_up = format!("the partner's allowance is used up ({short} {units} short)");
-    format!("partner 0, connection {connection}: refused with 9, {used_up}: the message waits")
+    format!("refused with 9, the partner's allowance is used up ({short} {units} short): the message waits")
 }
 
 /// A session of partner 0 in which the last of four sends waits for the allowance, and the clock stands.
@@ -118,7 +126,7 @@ fn an_open_that_waits_has_its_shortfall_in_the_log() {
     (0..count).for_each(|_| peer.send(Message::Keepalive));
     relay.await_done(0, 2 + count);
     let mut late = relay.socket(0);
-    relay.await_line(&waits(1, 33));
+    relay.await_line(&open_waits(33));
     assert_eq!(relay.server.statistics()[0].waited, 1);
     clock.advance(1);
     assert_eq!(late.receive(), encode(&Message::ProtocolVersion { major: 1, minor: 0 }));

@@ -50,17 +50,23 @@ fn the_term_of_leases_is_a_number_in_json() {
     assert!(told["text"] == "leases last 600 seconds" && told.get("partner").is_none(), "{told}");
 }
 
-/// A connection of partner 2 on which more keepalives come than the allowance pays for.
-fn short(server: &Server) -> Socket {
+/// A connection of partner 2 on which so many keepalives come.
+fn sending(server: &Server, keepalives: usize) -> Socket {
     let mut peer = Socket::over(TcpStream::connect(server.addresses()[2]).expect("the relay listens"));
     peer.receive().expect("the version");
     peer.send(Message::VersionAnswer { ok: 1 });
-    peer.send_bytes(&[0, 2, 1, 13].repeat(262_144 / 33));
+    peer.send_bytes(&[0, 2, 1, 13].repeat(keepalives));
     peer
 }
 
-/// An open (45), an answer (34) and 7,941 keepalives (33 each) leave 12 of 262,144.
+/// Keepalives that the allowance pays for: an open (45), an answer (34) and so many (33 each) leave 12 of 262,144.
+const PAID: usize = 7_941;
 const SHORT_BY: u64 = 33 - 12;
+
+/// Likewise on which more come than the allowance pays for.
+fn short(server: &Server) -> Socket {
+    sending(server, PAID + 2)
+}
 
 #[test]
 fn a_wait_s_shortfall_is_in_the_text() {
@@ -92,4 +98,21 @@ fn a_wait_s_shortfall_is_a_number_in_json_and_other_lines_have_none() {
     other.send(Message::DataSend { data: b"for nobody" });
     let dropped = object(&await_line(&lines, "\"dropped\""));
     assert!(dropped["connection"] == 24 && dropped.get("shortfall").is_none(), "{dropped}");
+}
+
+#[test]
+fn a_line_about_one_that_is_not_opened_has_its_partner_and_its_peer_and_no_number() {
+    let (server, lines) = logged(LogFormat::Json, Standing::default());
+    let _peer = sending(&server, PAID);
+    while server.statistics()[2].done < 2 + PAID as u64 {
+        std::thread::yield_now();
+    }
+    let late = TcpStream::connect(server.addresses()[2]).expect("the relay listens");
+    let told: Value = serde_json::from_str(&await_line(&lines, "\"waits\"")).expect("an object");
+    assert!(told["partner"] == 2 && told.get("connection").is_none() && told["shortfall"] == 45 - 12, "{told}");
+    assert_eq!(told["peer"], late.local_addr().expect("an address").to_string());
+    assert!(told["text"].as_str().is_some_and(|text| text.starts_with("its open is refused with 9")), "{told}");
+    drop(late);
+    let told: Value = serde_json::from_str(&await_line(&lines, "\"left\"")).expect("an object");
+    assert!(told["partner"] == 2 && told.get("connection").is_none(), "{told}");
 }

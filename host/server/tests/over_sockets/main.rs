@@ -9,6 +9,7 @@ mod keepalives;
 mod lease_terms;
 mod log_lines;
 mod numbers;
+mod old_sockets;
 mod slow_readers;
 mod sockets;
 mod state;

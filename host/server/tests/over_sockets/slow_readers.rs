@@ -13,18 +13,18 @@ use crate::clocks::Standing;
 use crate::support::{assert_stops, Relay, Socket};
 
 /// More bytes than the relay and the kernel hold for a peer that reads nothing.
-const MOST: usize = 1 << 24;
+pub const MOST: usize = 1 << 24;
 /// What the buffers of the kernel and of the relay hold together, on either side of it: 128 KiB of each socket, an input
 /// of 128 KiB, an output of 96 KiB and a message. The kernel counts more than the bytes.
-const BUFFERS: usize = 1 << 20;
+pub const BUFFERS: usize = 1 << 20;
 
 /// What may come between the test and the relay.
 const SLACK: Duration = Duration::from_millis(1_500);
 /// Of a peer's own kernel buffers.
-const SMALL: usize = 32_768;
+pub const SMALL: usize = 32_768;
 
-/// A session of two whose own kernel buffers are small, so that what is on its way is with the relay.
-fn session(relay: &Relay) -> (Socket, Socket) {
+/// A session of partner 0 of two, the first and the second connection, whose own kernel buffers are small, so that what is on its way is with the relay.
+pub fn session(relay: &Relay) -> (Socket, Socket) {
     let (mut caller, mut holder) = (relay.peer(0), relay.peer(0));
     SockRef::from(&caller.stream).set_send_buffer_size(SMALL).expect("a size");
     SockRef::from(&holder.stream).set_recv_buffer_size(SMALL).expect("a size");
@@ -33,14 +33,14 @@ fn session(relay: &Relay) -> (Socket, Socket) {
 }
 
 /// The frame of a send of the largest size.
-fn longest_send() -> Vec<u8> {
+pub fn longest_send() -> Vec<u8> {
     let mut frame = Vec::new();
     frames::append(&[&[11], &[7; 65_533][..]].concat(), &mut frame).expect("a frame");
     frame
 }
 
 /// Bytes of the messages that make a session: two version answers, a lease request and one to establish.
-const NO_DATA: u64 = 2 * 2 + 2 + 5;
+pub const NO_DATA: u64 = 2 * 2 + 2 + 5;
 
 /// Bytes of the frames of so many bytes of the longest sends, which have a header each.
 fn framed(bytes: u64) -> u64 {
@@ -48,7 +48,7 @@ fn framed(bytes: u64) -> u64 {
 }
 
 /// Sends the frame over and over until nothing is taken for a while. Gives how many bytes were.
-fn fill(socket: &mut Socket, frame: &[u8]) -> usize {
+pub fn fill(socket: &mut Socket, frame: &[u8]) -> usize {
     socket.stream.set_write_timeout(Some(Duration::from_millis(300))).expect("a timeout");
     let mut taken = 0;
     while taken < MOST {

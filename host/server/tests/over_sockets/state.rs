@@ -7,7 +7,7 @@ use std::thread;
 use std::time::{Duration, Instant};
 
 use codec::{encode, Message};
-use server::{bind_free, LeaseTerm, Log, LogFormat, Server, Settings, SystemClock};
+use server::{bind_free, LeaseTerm, Log, LogFormat, Server, Settings, SystemClock, CONNECTIONS_EACH};
 use tempfile::TempDir;
 
 use crate::clocks::Standing;
@@ -15,6 +15,8 @@ use crate::support::{Relay, LIMIT};
 
 /// Bytes of the three tables.
 const SIZE: usize = 4_096 + 5_120 + 144;
+/// Bytes of a connection's record, which is in the first table.
+const RECORD: usize = 64;
 /// The state of an open connection, the first byte of its record.
 const OPEN: u8 = 2;
 /// Where the first connection's record tells whether a Keepalive is unanswered.
@@ -100,18 +102,20 @@ fn the_state_is_saved_while_the_relay_runs_and_connections_of_a_killed_one_are_c
     let (file, copy) = (folder.path().join("state"), folder.path().join("copy"));
     let relay = with_state(SystemClock::new(), &file);
     let fresh = fs::read(&file).expect("it is written at the start");
-    let eight: Vec<_> = (0..8).map(|_| relay.peer(0)).collect();
+    let all: Vec<_> = (0..CONNECTIONS_EACH).map(|_| relay.peer(0)).collect();
     let start = Instant::now();
     thread::sleep(Duration::from_millis(100));
-    let saved = await_saved(&file, |bytes| bytes != fresh);
+    await_saved(&file, |bytes| bytes != fresh);
     // Half a second, and what a busy disk takes: a sync may stand for ten seconds there.
     assert!(start.elapsed() < Duration::from_secs(30), "it took {:?}", start.elapsed());
-    // What a killed relay would leave: some connections are open in it.
+    // What a killed relay would leave: all connections of the partner are open in it.
+    let saved = await_saved(&file, |bytes| (0..CONNECTIONS_EACH).all(|number| bytes[number * RECORD] == OPEN));
     fs::write(&copy, saved).expect("a copy");
-    drop(eight);
+    drop(all);
     let second = with_state(SystemClock::new(), &copy);
-    let mut again: Vec<_> = (0..8).map(|_| second.peer(0)).collect();
+    let mut again: Vec<_> = (0..CONNECTIONS_EACH).map(|_| second.peer(0)).collect();
     assert!(again.iter_mut().all(|peer| peer.lease() < 1 << 26));
+    assert!(second.await_opened(CONNECTIONS_EACH).into_iter().eq(0..CONNECTIONS_EACH), "all numbers were free");
 }
 
 #[test]

@@ -61,7 +61,7 @@ impl Relay {
         socket
     }
 
-    /// Likewise, tried again while all eight numbers are in use.
+    /// Likewise, tried again while all numbers are in use.
     pub fn patient_peer(&self, partner: usize) -> Socket {
         let end = Instant::now() + LIMIT;
         loop {
@@ -85,6 +85,13 @@ impl Relay {
         self.wait_until(|| texts.iter().any(|text| self.has_line(text)), &format!("no line with any of {texts:?}"));
     }
 
+    /// Waits until so many connections have been opened in all, and gives their numbers in that order.
+    pub fn await_opened(&self, count: usize) -> Vec<usize> {
+        let opened = || self.lines_with(": connected");
+        self.wait_until(|| opened().len() >= count, &format!("fewer than {count} are opened"));
+        opened().iter().map(|line| number_of(line)).collect()
+    }
+
     /// Waits until so many calls of the partner have been made to wait.
     pub fn await_waits(&self, partner: usize, count: u64) {
         self.wait_until(|| self.server.statistics()[partner].waited >= count, "no call waits");
@@ -104,8 +111,19 @@ impl Relay {
     }
 
     pub fn has_line(&self, text: &str) -> bool {
-        self.lines.lock().expect("no panic in a log").iter().any(|line| line.contains(text))
+        !self.lines_with(text).is_empty()
     }
+
+    pub fn lines_with(&self, text: &str) -> Vec<String> {
+        let lines = self.lines.lock().expect("no panic in a log");
+        lines.iter().filter(|line| line.contains(text)).cloned().collect()
+    }
+}
+
+/// The connection that a line of the log is about.
+fn number_of(line: &str) -> usize {
+    let number = line.split_once("connection ").and_then(|(_, rest)| rest.split_once(':'));
+    number.and_then(|(number, _)| number.parse().ok()).unwrap_or_else(|| panic!("no number: {line}"))
 }
 
 /// A line of the log without its time and the peer's address, which differ from run to run.
