@@ -82,7 +82,7 @@ crondelith_answer crondelith_keepalive(uint8_t *connections, size_t connections_
                                        uint8_t *allowances, size_t allowances_length, uint64_t map, uint64_t now, uint64_t connection,
                                        uint8_t *reply, size_t reply_length, uint8_t *relay, size_t relay_length);
 
-/* Which number has a new connection? From the map alone: how many connections the partner has, and the lowest of its numbers whose bit is 0,
+/* Which number does a new connection get? From the map alone: how many connections the partner has, and the lowest of its numbers whose bit is 0,
  * or CRONDELITH_NOBODY exactly if it has none. number: 0, or 3 if there is no such partner (8 or more): then 0 and CRONDELITH_NOBODY.
  */
 typedef struct {

@@ -41,7 +41,7 @@ pub fn refused(number: u32, map: u64) -> CallAnswer
     with_map(answers::sent_nothing(number), map)
 }
 
-// Done, and connection c is open.
+// Done, and connection c is closed no longer.
 pub fn opened(answer: Answer, map: u64, c: u8) -> CallAnswer
     requires { ⌜ c < connectionCount ⌝ }
     ensures { λ r. ⌜ r ≡ answerWith answer (withBit map c) ⌝ }

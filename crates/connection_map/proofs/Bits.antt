@@ -27,7 +27,7 @@ set-half m k =
     sym (ap (λ (n : ℕ). eqb (n % 2) 1) (shr-shr m 1 k) ∙ ap (λ (n : ℕ). eqb (m / 2 ^ n % 2) 1) (one-add k))
 
 -- the digit itself
-pub digit : (m c : ℕ) → m / 2 ^ c % 2 ≡ (if isSet m c then 1 else 0)
+digit : (m c : ℕ) → m / 2 ^ c % 2 ≡ (if isSet m c then 1 else 0)
 unfolding isSet
 digit m c = go (eqb (m / 2 ^ c % 2) 1) refl
   where

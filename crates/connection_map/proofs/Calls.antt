@@ -22,26 +22,6 @@ use Rattle.connection_map.specs.Claims.{BitAfter, OnlyOpenedOrClosed}
 use Rattle.connection_map.proofs.Bits.{with-exactly, without-exactly, with-fits, without-fits}
 use Rattle.connection_map.proofs.States.{closedAfter, right-state, states-after}
 
--- what becomes of each bit, and of being closed: both as the call says, of whoever it is
-module _ (map : ℕ) (cs : List ℕ) (k : ℕ) where
-  -- the bit of the caller is written, and the others stay
-  written : (b : Bool) (c : ℕ) → isSet map k ≡ not (isClosed cs k)
-      → (if eqb k c then not b else isSet map k) ≡ not (if eqb k c then b else isClosed cs k)
-  written b c h = go (eqb k c)
-    where
-      go : (x : Bool) → (if x then not b else isSet map k) ≡ not (if x then b else isClosed cs k)
-      go true = refl
-      go false = h
-
-  done-agrees : (call : Call) (d : Bool) → isSet map k ≡ not (isClosed cs k) → isSet (mapOfDone call d map) k ≡ not (closedAfter call d cs k)
-  unfolding mapOfDone
-  done-agrees (opening now c reply) d h = with-exactly c map k ∙ written false c h
-  done-agrees (message now c m random reply relay) true h = without-exactly c map k ∙ written true c h
-  done-agrees (message now c m random reply relay) false h = h
-  done-agrees (closing now c relay) d h = without-exactly c map k ∙ written true c h
-  done-agrees (keepalive now c reply relay) true h = without-exactly c map k ∙ written true c h
-  done-agrees (keepalive now c reply relay) false h = h
-
 done-fits : (call : Call) (d : Bool) (map : ℕ) → connectionOf call < connectionCount → map < 2 ^ connectionCount
     → mapOfDone call d map < 2 ^ connectionCount
 unfolding mapOfDone
@@ -121,15 +101,17 @@ module _ (tables : Tables) (map : ℕ) (call : Call) where
           (done-bits (tables .connections) call _ map k (right-state tables call (done-passed tables call e)))
       go (no n) = rw (refused-leaves-map n, as-without-map, refused-leaves-all tables call n) (untouched _ _)
 
+  -- so that a bit that told which connection is closed goes on telling
+  tells : (was is bit next : Bool) → BitAfter was is bit next → bit ≡ not was → next ≡ not is
+  tells true true bit next x h = x .others refl ∙ h
+  tells true false bit next x h = x .opened refl refl
+  tells false true bit next x h = x .closed refl refl
+  tells false false bit next x h = x .others refl ∙ h
+
   -- "if the map agreed before, it agrees after": of every call, refused or done
   pub agrees-after : Agrees map (tables .connections) → Agrees (o .map) (o .outcome .tables .connections)
-  agrees-after a = go (ℕ-discrete (step tables call .answer .number) 0)
+  agrees-after a = record { bits = λ k l. tells _ _ _ _ (only-opened-or-closed k) (a .bits k l); no-others = fits (ℕ-discrete (step tables call .answer .number) 0) }
     where
-      go : Dec (step tables call .answer .number ≡ 0) → Agrees (o .map) (o .outcome .tables .connections)
-      go (yes e) =
-          rw (done-map e, as-without-map)
-          (record {
-            bits = λ k l. done-agrees map (tables .connections) k call _ (a .bits k l) ∙ ap not (sym (states-after tables call e k));
-            no-others = done-fits call _ map (passed tables call (done-passed tables call e) .known) (a .no-others);
-          })
-      go (no n) = rw (refused-leaves-map n, as-without-map, refused-leaves-all tables call n) a
+      fits : Dec (step tables call .answer .number ≡ 0) → o .map < 2 ^ connectionCount
+      fits (yes e) = rw (done-map e) (done-fits call _ map (passed tables call (done-passed tables call e) .known) (a .no-others))
+      fits (no n) = rw (refused-leaves-map n) (a .no-others)

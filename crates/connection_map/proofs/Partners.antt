@@ -2,7 +2,7 @@
 use Prim.Native.Nat.{ℕ, zero, suc, _+_, _≤_, _<_}
 use mathlib.Core.Path.{_≡_, refl, sym, ap, ap₂, _∙_}
 use mathlib.Core.Logic.{_≢_, _↔_}
-use mathlib.Core.Bool.{Bool, true, false, not, true≢false}
+use mathlib.Core.Bool.{Bool, true, false, not, true≢false, Bool·not-not}
 use mathlib.Core.List.{List}
 use native.Mathlib.Omega.{arith}
 use native.Mathlib.Decide.{decLt}
@@ -11,11 +11,11 @@ use borrow.Author.Tests.{lt-ltb, le-ltb, not-false}
 use Rattle.octets.specs.Octets.{if_then_else_}
 use Rattle.rules.specs.Sizes.{partners, connectionsPerPartner}
 use Rattle.rules.specs.Searches.{firstFrom}
-use Rattle.rules.specs.Tables.{isClosed}
+use Rattle.rules.specs.Tables.{partnerOf, isClosed}
 use Rattle.rules.proofs.Searches.{first-low, first-passes, first-below, first-found}
 use Rattle.connection_map.specs.Bits.{isSet, countFrom}
 use Rattle.connection_map.specs.Maps.{Agrees, firstConnection, endConnection, connectionsOf, firstClear, lowestClosed, partnerConnections}
-use Rattle.connection_map.specs.Claims.{Lowest, openOf}
+use Rattle.connection_map.specs.Claims.{Lowest, takenOf}
 
 -- ---- counts
 
@@ -127,24 +127,20 @@ module _ (map : ℕ) (cs : List ℕ) (agrees : Agrees map cs) (p : ℕ) (p< : p 
   own-bit c l u = agrees .bits c (omega (arith, p<))
 
   -- "how many connections a partner has"
-  pub counts-open : connectionsOf map p ≡ openOf (isClosed cs) p
+  pub counts-taken : connectionsOf map p ≡ takenOf (isClosed cs) p
   unfolding connectionsOf
-  counts-open = count-same (isSet map) (λ c. not (isClosed cs c)) (firstConnection p) connectionsPerPartner own-bit
+  counts-taken = count-same (isSet map) (λ c. not (isClosed cs c)) (firstConnection p) connectionsPerPartner own-bit
+
+  own-clear : (c : ℕ) → partnerOf c ≡ p → not (isSet map c) ≡ isClosed cs c
+  own-clear c mine = ap not (own-bit c (omega arith) (omega arith)) ∙ Bool·not-not (isClosed cs c)
 
   -- "the lowest closed number of that partner"
   pub lowest-is-closed : Lowest (isClosed cs) p (lowestClosed map p)
   lowest-is-closed =
       let low = lowest-exactly map p p< in
       record {
-        none = (
-          (λ e c mine. not-not (isClosed cs c) (sym (ap not (own-bit c (omega arith) (omega arith))) ∙ low .none .0 e c mine)),
-          (λ h. low .none .1 (λ c mine. ap not (own-bit c (omega arith) (omega arith)) ∙ ap (λ (b : Bool). not (not b)) (h c mine))),
-        );
+        none = ((λ e c mine. sym (own-clear c mine) ∙ low .none .0 e c mine), (λ h. low .none .1 (λ c mine. own-clear c mine ∙ h c mine)));
         own = low .own;
-        is-closed = λ n. not-not _ (sym (ap not (own-bit _ (omega (arith, low .own n)) (omega (arith, low .own n)))) ∙ low .is-closed n);
-        least = λ n c mine h. low .least n c mine (ap not (own-bit c (omega arith) (omega arith)) ∙ ap (λ (b : Bool). not (not b)) h);
+        is-closed = λ n. sym (own-clear _ (low .own n)) ∙ low .is-closed n;
+        least = λ n c mine h. low .least n c mine (own-clear c mine ∙ h);
       }
-    where
-      not-not : (x : Bool) {y : Bool} → not (not x) ≡ y → x ≡ y
-      not-not true e = e
-      not-not false e = e

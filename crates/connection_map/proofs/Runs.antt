@@ -1,24 +1,27 @@
 -- Runs with the map: the map agrees at every moment, the tables are those of the run without it, and demand 3 holds. Assumes nothing.
-use Prim.Native.Nat.{ℕ, _+_, _<_}
+use Prim.Native.Nat.{ℕ, zero, suc, _+_, _<_}
 use mathlib.Core.Path.{_≡_, refl, sym, ap, ap₂, _∙_}
 use mathlib.Core.Logic.{_≢_}
 use mathlib.Core.Bool.{true, not}
 use mathlib.Core.List.{List, [], _∷_}
 use native.Mathlib.Omega.{arith}
-use lib.Dec.{lit≤}
+use lib.Dec.{eqb, eqb·suc-zero, lit≤}
 use lib.Pow.{pow-pos}
 use borrow.Author.Tests.{eq-eqb, ne-eqb}
+use Rattle.octets.specs.Octets.{if_then_else_}
+use Rattle.allowance.specs.History.{Entry}
 use Rattle.allowance.specs.Meter.{Metered, Demand3, Fresh}
 use Rattle.allowance.specs.Meter as meter
 use Rattle.allowance.proofs.Demand3.{demand3}
 use Rattle.rules.specs.Sizes.{connectionCount}
 use Rattle.rules.specs.Tables.{Tables, connectionAt, state, isClosed, fresh}
 use Rattle.rules.specs.Calls.{Call}
-use Rattle.rules.specs.Step.{start}
+use Rattle.rules.specs.Checks.{checkStart}
+use Rattle.rules.specs.Step.{step, started, start}
 use Rattle.rules.specs.Runs as unmapped
 use Rattle.rules.proofs.Fresh.{fresh-connection}
 use Rattle.rules.proofs.Metered.{relay-metered}
-use Rattle.rules.proofs.Demand3.{started-fresh, start-is-fresh}
+use Rattle.rules.proofs.Demand3.{started-fresh, start-is-fresh, relay-demand3}
 use Rattle.connection_map.specs.Maps.{Agrees, mapOf}
 use Rattle.connection_map.specs.Steps.{Relay, left, stepWithMap, startWithMap, mappedMeter, after}
 use Rattle.connection_map.specs.Claims.{MappedDemand3}
@@ -33,6 +36,14 @@ pub run-tables : (calls : List Call) (relay : Relay) → after relay calls .tabl
 unfolding meter.after stepWithMap
 run-tables [] relay = refl
 run-tables (call ∷ calls) relay = run-tables calls (left (stepWithMap (relay .tables) (relay .map) call))
+
+-- So is the history: what is answered doesn't depend on the map.
+pub run-history : (calls : List Call) (relay : Relay) → meter.history mappedMeter relay calls ≡ unmapped.history (relay .tables) calls
+unfolding meter.history meter.entry stepWithMap
+run-history [] relay = refl
+run-history (call ∷ calls) relay =
+    ap (λ (h : List Entry). meter.entry mappedMeter call (step (relay .tables) call .answer) ∷ h)
+    (run-history calls (left (stepWithMap (relay .tables) (relay .map) call)))
 
 -- A map that agreed before the calls agrees after them.
 pub run-agrees : (calls : List Call) (relay : Relay) → Agrees (relay .map) (relay .tables .connections)
@@ -107,9 +118,21 @@ module _ (lent : Tables) (map now term : ℕ) where
     pub run-map-is : (calls : List Call) → after made calls .map ≡ mapOf (after made calls .tables .connections)
     run-map-is calls = agrees-exactly _ _ .0 (run-map-agrees calls)
 
+-- "if the map agreed before, it agrees after": of every start too, refused or done
+pub start-agrees : (lent : Tables) (map now term : ℕ) → Agrees map (lent .connections)
+    → Agrees (startWithMap lent map now term .map) (startWithMap lent map now term .outcome .tables .connections)
+unfolding startWithMap start
+start-agrees lent map now term a = go (checkStart lent now term)
+  where
+    go : (n : ℕ) → Agrees (if eqb (started n lent now term .answer .number) 0 then 0 else map) (started n lent now term .tables .connections)
+    go zero = fresh-agrees now term
+    go (suc n) = rw (eqb·suc-zero n) a
+
 pub mapped-demand3 : MappedDemand3
-unfolding startWithMap
+unfolding startWithMap stepWithMap
 mapped-demand3 = record {
+  price-if-done = λ relay call. relay-demand3 .price-if-done (relay .tables) call;
+  price-is-cost = λ relay call. relay-demand3 .price-is-cost (relay .tables) call;
   every-run = λ lent map now term e calls. all .fresh-runs (left (startWithMap lent map now term)) now (made-fresh lent map now term e) calls;
   any-tables = all .all-runs;
 }

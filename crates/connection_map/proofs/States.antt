@@ -165,7 +165,7 @@ pub right-state : (tables : Tables) (call : Call) → precheck tables call ≡ 0
 unfolding precheck firstEight
 right-state tables call h = none-applies 0 (firstEight tables call) h 3
 
-pub message-not-closed : (tables : Tables) (now c : ℕ) (m random reply relay : List ℕ) → precheck tables (message now c m random reply relay) ≡ 0
+message-not-closed : (tables : Tables) (now c : ℕ) (m random reply relay : List ℕ) → precheck tables (message now c m random reply relay) ≡ 0
     → isClosed (tables .connections) c ≡ false
 unfolding wrongState
 message-not-closed tables now c m random reply relay h = right-state tables (message now c m random reply relay) h

@@ -37,6 +37,7 @@ rebuild cs = if eqb (length cs) connectionsSize then record { number = 0; map = 
 
 -- ---- "From it the host gets how many connections a partner has and the lowest closed number of that partner"
 
+-- "Connection c belongs to partner c / 8": the first of them, and the first behind them
 abbrev pub firstConnection : ℕ → ℕ
 firstConnection p = connectionsPerPartner * p
 

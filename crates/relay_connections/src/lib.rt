@@ -5,7 +5,7 @@ ghost use Rattle.rules.specs.Sizes.{partners, connectionsPerPartner};
 ghost use Rattle.connection_map.specs.Maps.{firstConnection, connectionsOf, lowestClosed, partnerConnections};
 ghost use Rattle.relay_connections.specs.Coded.{coded};
 
-// Bits of the map that a partner has, and how many numbers they can be.
+// Bits of the map that a partner has, and how many values they can take.
 const WIDTH: u64 = rules::CONNECTIONS_PER_PARTNER as u64;
 
 const PATTERNS: u64 = 1 << WIDTH;

@@ -63,6 +63,7 @@ const _: () = assert!(size_of::<PartnerConnections>() == 12 && align_of::<Partne
 pub struct Rebuilt {
     /// 0, or 1 if the table has another size.
     pub number: u32,
+    /// Or 0.
     pub map: u64,
 }
 
@@ -105,7 +106,7 @@ declare_on_tables! {
     );
 }
 
-/// Makes a fresh relay of the tables, whose leases last so many seconds; 0 means 600.
+/// Makes a fresh relay of the tables, whose leases last so many seconds; 0 means 600. Its map is 0.
 pub fn fresh(tables: Tables, map: u64, now: u64, term: u64) -> Answer {
     call_on_tables!(crondelith_fresh, tables.as_mut_ptr, map, now, term)
 }

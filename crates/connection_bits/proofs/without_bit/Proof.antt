@@ -14,7 +14,7 @@ shl-result c = search needs
 returns : tie.Need-returns
 returns c =
     let m = c .args .map in
-    ap (λ (n : ℕ). bitAnd m (2 ^ 64 - 1 - n)) (one-at (c .args .c) (c .pre)) ∙ and-without (c .args .c) 63 m (omega (arith, c .pre)) (omega arith)
+    ap (λ (n : ℕ). bitAnd m (2 ^ 64 - 1 - n)) (one-at (c .args .c) (omega (arith, c .pre))) ∙ and-without (c .args .c) 63 m (omega (arith, c .pre)) (omega arith)
 
 pub without-bit-spec : {M : Type 1} → statement M
 without-bit-spec = tie.close (tie.spec shl-result returns)
