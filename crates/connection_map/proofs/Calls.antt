@@ -22,16 +22,6 @@ use Rattle.connection_map.specs.Claims.{BitAfter, OnlyOpenedOrClosed}
 use Rattle.connection_map.proofs.Bits.{with-exactly, without-exactly, with-fits, without-fits}
 use Rattle.connection_map.proofs.States.{closedAfter, right-state, states-after}
 
-done-fits : (call : Call) (d : Bool) (map : ℕ) → connectionOf call < connectionCount → map < 2 ^ connectionCount
-    → mapOfDone call d map < 2 ^ connectionCount
-unfolding mapOfDone
-done-fits (opening now c reply) d map c< h = with-fits connectionCount c map c< h
-done-fits (message now c m random reply relay) true map c< h = without-fits connectionCount c map h
-done-fits (message now c m random reply relay) false map c< h = h
-done-fits (closing now c relay) d map c< h = without-fits connectionCount c map h
-done-fits (keepalive now c reply relay) true map c< h = without-fits connectionCount c map h
-done-fits (keepalive now c reply relay) false map c< h = h
-
 -- a bit that is left alone, and one that is written where the connection was not so before
 untouched : (was bit : Bool) → BitAfter was was bit bit
 untouched was bit = record {
@@ -70,6 +60,17 @@ done-bits cs (message now c m random reply relay) false map k h = untouched (isC
 done-bits cs (closing now c relay) d map k h = rw (without-exactly c map k) (turns cs map c true h k)
 done-bits cs (keepalive now c reply relay) true map k h = rw (without-exactly c map k) (turns cs map c true h k)
 done-bits cs (keepalive now c reply relay) false map k h = untouched (isClosed cs k) (isSet map k)
+
+-- and the map has no more bits than before
+done-fits : (call : Call) (d : Bool) (map : ℕ) → connectionOf call < connectionCount → map < 2 ^ connectionCount
+    → mapOfDone call d map < 2 ^ connectionCount
+unfolding mapOfDone
+done-fits (opening now c reply) d map c< h = with-fits connectionCount c map c< h
+done-fits (message now c m random reply relay) true map c< h = without-fits connectionCount c map h
+done-fits (message now c m random reply relay) false map c< h = h
+done-fits (closing now c relay) d map c< h = without-fits connectionCount c map h
+done-fits (keepalive now c reply relay) true map c< h = without-fits connectionCount c map h
+done-fits (keepalive now c reply relay) false map c< h = h
 
 module _ (tables : Tables) (map : ℕ) (call : Call) where
   abbrev o : MappedOutcome
