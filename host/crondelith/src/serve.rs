@@ -36,7 +36,7 @@ no message for a refusal, so this is what follows from one:
   permitted then (7)         the connection is closed
   a ninth connection         waits a tenth of a second for a number, and is closed; so is a new one
                              while the partner has sixteen, with those that have ended and are
-                             still written to
+                             still there
 
 Each has a log line on stderr, with the time and the peer's address, and of a message that waits
 how many units are missing; from the eleventh line of a kind and connection on they are summed up,

@@ -120,7 +120,7 @@ impl Connection {
     /// Whether its stream is read: also for nobody, when all is written to it and its peer's end is awaited. Before that
     /// nothing is read of one that is closing: its partner wouldn't pay for it.
     pub fn is_read(&self) -> bool {
-        self.is_taken_from() || self.phase == Phase::Closing && self.due.is_some()
+        self.is_taken_from() || self.phase == Phase::Closing && self.due.is_some() && self.hold.is_none()
     }
 
     /// Whether a SessionEnd can be taken from it: the one message that costs nothing, so it is offered at once, whoever

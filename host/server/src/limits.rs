@@ -15,7 +15,7 @@ pub struct Limits {
     pub frame: Duration,
     /// For a number, by a connection that comes while all of its partner's are in use, or for a place among its sockets.
     pub number: Duration,
-    /// For what is still to be written when the relay ends.
+    /// For what is still to be written when the relay ends; and for its peer's end, by a connection that has ended.
     pub last_words: Duration,
     /// For peers to be heard after the relay itself stood still for so long, before it judges any.
     pub standstill: Duration,

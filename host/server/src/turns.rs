@@ -133,6 +133,17 @@ mod tests {
     }
 
     #[test]
+    fn who_joins_twice_has_one_turn() {
+        let mut turns = Turns::default();
+        [0, 1, 0].into_iter().for_each(|place| turns.join(socket(place)));
+        for expected in [0, 1, 0, 1] {
+            let next = turns.next().expect("somebody");
+            assert_eq!(next.place(), expected);
+            turns.pass_on(next);
+        }
+    }
+
+    #[test]
     fn nothing_is_saved_up_by_who_has_nothing_to_offer() {
         let mut turns = Turns::default();
         turns.join(socket(0));

@@ -56,6 +56,10 @@ impl EventLoop {
         let Some(connection) = self.sockets.get_mut(socket) else { return };
         if matches!(connection.hold, Some(Hold::Pause(until)) if until <= now) {
             connection.hold = None;
+            // What is read for nobody is never a message.
+            if connection.phase == Phase::Closing {
+                self.ready.push(socket);
+            }
             self.go_on(socket);
         }
     }

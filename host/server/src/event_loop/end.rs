@@ -48,12 +48,12 @@ impl EventLoop {
         self.ready.push(socket);
     }
 
-    /// Reads what a peer still sends, for nobody.
+    /// Reads what a peer still sends, for nobody, and so with pauses.
     pub(super) fn discard(&mut self, socket: SocketId) {
         let Some(connection) = self.sockets.get_mut(socket) else { return };
         match connection.stream.read(&mut self.scratch) {
             Ok(0) => self.free(socket),
-            Ok(_) => self.ready.push(socket),
+            Ok(count) => self.pause(socket, count),
             Err(error) if error.kind() == io::ErrorKind::WouldBlock => connection.readable = false,
             Err(error) if error.kind() == io::ErrorKind::Interrupted => self.ready.push(socket),
             Err(_) => self.free(socket),

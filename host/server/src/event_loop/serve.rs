@@ -21,8 +21,8 @@ const SHARED_TURN: usize = 32_768;
 const NEEDS_RANDOM: [u8; 2] = [LEASE_REQUEST, ESTABLISH_REQUEST];
 /// Lent to the others.
 const NOT_RANDOM: [u8; RANDOM] = [0; RANDOM];
-/// A dropped message costs its sender no allowance. So the next one is taken after a pause of a millisecond for each KiB
-/// begun of it: a flood of them mustn't keep the relay busy.
+/// A dropped message costs its sender no allowance, nor do bytes that are read for nobody. So the next are taken after a
+/// pause of a millisecond for each KiB begun of them: a flood of them mustn't keep the relay busy.
 const PAUSE: Duration = Duration::from_millis(1);
 const PAUSE_BYTES: usize = 1_024;
 
@@ -185,9 +185,8 @@ impl EventLoop {
                 self.partner_of(socket).statistics.dropped += 1;
                 self.log_connection(socket, "dropped", refusal);
                 let length = self.next_message(socket).map_or(0, <[u8]>::len);
-                let pause = PAUSE * length.div_ceil(PAUSE_BYTES).max(1) as u32;
                 self.sockets.get_mut(socket).into_iter().for_each(Connection::take);
-                self.hold(socket, Hold::Pause(self.now + pause));
+                self.pause(socket, length);
             }
             Consequence::Close => self.end(socket, End::Refused(refusal)),
         }
@@ -221,6 +220,12 @@ impl EventLoop {
             Some(number) => self.relay.explain_message(number, connection.input.message()?, random),
         };
         reason.shortfall()
+    }
+
+    /// Takes nothing from a connection for as long as so many bytes, which cost nobody anything, are worth.
+    pub(super) fn pause(&mut self, socket: SocketId, length: usize) {
+        let pause = PAUSE * length.div_ceil(PAUSE_BYTES).max(1) as u32;
+        self.hold(socket, Hold::Pause(self.now + pause));
     }
 
     /// Takes nothing from a connection for a while.

@@ -9,10 +9,10 @@ use mio::{Events, Interest, Poll};
 use socket2::SockRef;
 
 use super::{EventLoop, Parts, PLACES};
-use crate::connection::{End, Phase};
+use crate::connection::{End, Hold, Phase};
 use crate::relay::Relay;
 use crate::sockets::SocketId;
-use crate::{bind_free, LeaseTerm, Limits, Log, LogFormat, SystemClock};
+use crate::{bind_free, LeaseTerm, Limits, Log, LogFormat, SystemClock, CONNECTIONS_EACH};
 
 /// A loop, and the address of partner 0.
 fn event_loop() -> (EventLoop, SocketAddr) {
@@ -101,6 +101,7 @@ fn what_comes_late_for_a_socket_leaves_the_next_one_in_its_place_alone() {
     event_loop.end(old, End::Failed(ErrorKind::ConnectionReset.into()));
     let (mut peer, new) = connect(&mut event_loop, address);
     assert!(new != old && new.place() == old.place());
+    assert!(event_loop.sockets.get(old).is_none());
     event_loop.outputs[new.place()].append(b"its own", &mut event_loop.spare_outputs);
     act_on(&mut event_loop, old);
     let connection = event_loop.sockets.get(new).expect("it is there");
@@ -128,4 +129,102 @@ fn a_number_leads_to_the_socket_that_has_it_now() {
     assert_eq!(event_loop.sockets.numbered(0), Some(new));
     let connections = event_loop.relay.connections_of(0);
     assert_eq!((connections.connections, connections.lowest), (1, 1));
+}
+
+#[test]
+fn the_next_one_in_a_place_is_sent_nothing_of_the_last() {
+    let (mut event_loop, address) = event_loop();
+    let (_peer, old) = connect(&mut event_loop, address);
+    event_loop.outputs[old.place()].append(b"another's", &mut event_loop.spare_outputs);
+    event_loop.end(old, End::GivenUp);
+    let (mut peer, new) = connect(&mut event_loop, address);
+    assert_eq!(new.place(), old.place());
+    let mut come = [0; 3 + 13];
+    peer.read_exact(&mut come).expect("the version");
+    assert!(come.ends_with(b"SVSC 001.000"), "{come:?}");
+}
+
+/// As many peers of partner 0 as it has connections, and their sockets.
+fn connect_all(event_loop: &mut EventLoop, address: SocketAddr) -> Vec<(TcpStream, SocketId)> {
+    (0..CONNECTIONS_EACH).map(|_| connect(event_loop, address)).collect()
+}
+
+/// A peer of partner 0 that waits for a number.
+fn wait(event_loop: &mut EventLoop, address: SocketAddr) -> TcpStream {
+    let before = event_loop.partners[0].port.candidates.len();
+    let peer = TcpStream::connect(address).expect("it listens");
+    while event_loop.partners[0].port.candidates.len() == before {
+        event_loop.partners[0].port.ready.fill(true);
+        event_loop.accept();
+    }
+    peer
+}
+
+#[test]
+fn who_waits_first_is_taken_in_first() {
+    let (mut event_loop, address) = event_loop();
+    let all = connect_all(&mut event_loop, address);
+    let waiting = [(); 3].map(|()| wait(&mut event_loop, address));
+    for (peer, (_, socket)) in waiting.iter().zip(all) {
+        event_loop.end(socket, End::GivenUp);
+        event_loop.accept();
+        let taken_in = latest(&event_loop).and_then(|socket| event_loop.sockets.get(socket)).expect("a socket");
+        assert_eq!(taken_in.address, peer.local_addr().expect("an address"));
+    }
+}
+
+#[test]
+fn the_loop_wakes_when_who_waits_for_a_number_has_waited_long_enough() {
+    let (mut event_loop, address) = event_loop();
+    let _all = connect_all(&mut event_loop, address);
+    event_loop.earliest = event_loop.now + Duration::from_secs(60);
+    let _waiting = wait(&mut event_loop, address);
+    assert_eq!(event_loop.earliest, event_loop.now + event_loop.limits.number);
+}
+
+/// The number is free since the loop has accepted in this turn.
+#[test]
+fn nobody_is_turned_away_while_there_is_room() {
+    let (mut event_loop, address) = event_loop();
+    let all = connect_all(&mut event_loop, address);
+    let _waiting = [(); 2].map(|()| wait(&mut event_loop, address));
+    event_loop.end(all[5].1, End::GivenUp);
+    event_loop.now += event_loop.limits.number;
+    event_loop.turn_away();
+    assert!(event_loop.partners[0].port.candidates.is_empty());
+    let opening = event_loop.sockets.count(0, Phase::Opening);
+    assert_eq!(opening, 1, "there is room for one, and the other is turned away");
+}
+
+#[test]
+fn a_loop_that_has_nothing_to_do_waits() {
+    let (mut event_loop, address) = event_loop();
+    let mut events = Events::with_capacity(8);
+    for why in [End::Left, End::GivenUp] {
+        let (_, socket) = connect(&mut event_loop, address);
+        event_loop.partner_of(socket).turns.join(socket);
+        event_loop.end(socket, why);
+        while event_loop.sockets.get(socket).is_some() {
+            event_loop.turn(&mut events).expect("a turn");
+        }
+        assert_eq!(event_loop.time_left(), Duration::ZERO, "somebody may wait for its place");
+        event_loop.turn(&mut events).expect("a turn");
+        assert!(event_loop.time_left() > Duration::ZERO);
+    }
+}
+
+/// The ended ones have the first places, and all their numbers are had again.
+#[test]
+fn who_is_held_goes_on_whichever_place_it_has() {
+    let (mut event_loop, address) = event_loop();
+    let ended = connect_all(&mut event_loop, address);
+    ended.iter().for_each(|(_, socket)| event_loop.end(*socket, End::Left));
+    let all = connect_all(&mut event_loop, address);
+    let (full, sockets) = (all[0].1, all.iter().map(|(_, socket)| *socket));
+    for socket in sockets {
+        assert!(socket.place() >= CONNECTIONS_EACH);
+        event_loop.sockets.get_mut(socket).expect("it is there").hold = Some(Hold::Output(full));
+        event_loop.release_senders(full);
+        assert_eq!(event_loop.sockets.get(socket).expect("it is there").hold, None);
+    }
 }

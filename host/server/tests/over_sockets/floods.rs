@@ -5,10 +5,11 @@ use std::net::SocketAddr;
 use std::time::{Duration, Instant};
 
 use codec::Message;
+use server::{Limits, SystemClock};
 use socket2::{Domain, Socket as RawSocket, Type};
 
 use crate::clocks::Standing;
-use crate::support::{Relay, Socket};
+use crate::support::{Relay, Socket, LIMIT};
 
 /// Frames of the message, as many as fit into some bytes.
 fn frames_of(message: &[u8], bytes: usize) -> Vec<u8> {
@@ -90,4 +91,20 @@ fn the_pause_after_a_dropped_message_grows_with_its_length() {
     let (short, long) = (dropped(16), dropped(65_000));
     assert!((20..=600).contains(&short), "{short} of 16 bytes in half a second");
     assert!((2..=10).contains(&long), "{long} of 65,000 bytes in half a second");
+}
+
+/// What is read for nobody costs nobody anything either.
+#[test]
+fn little_is_read_of_who_has_ended() {
+    let relay = Relay::with_limits(SystemClock::new(), Limits { last_words: LIMIT, ..Limits::default() });
+    let mut peer = small_peer(relay.server.addresses()[0]);
+    peer.send_bytes(&[0, 0]);
+    relay.await_line("closed, a frame of length 0");
+    peer.stream.set_write_timeout(Some(Duration::from_millis(20))).expect("a timeout");
+    let (end, mut taken) = (Instant::now() + Duration::from_millis(500), 0);
+    while Instant::now() < end {
+        taken += peer.stream.write(&[7; 65_536]).unwrap_or_default();
+    }
+    // A MiB a second, and what the kernel's buffers hold.
+    assert!((64_000..2_000_000).contains(&taken), "{taken}");
 }

@@ -77,6 +77,20 @@ fn the_sender_to_a_slow_reader_waits_and_nothing_is_lost() {
     assert_eq!(holder.receive(), encode(&Message::DataReceive { data: &[7; 65_533] }));
 }
 
+/// The time that it had for what waited is over with it.
+#[test]
+fn who_has_read_all_that_waited_is_not_given_up_later() {
+    let patience = Duration::from_secs(2);
+    let relay = Relay::with_limits(JumpingClock::default(), Limits { patience, ..Limits::default() });
+    let (mut caller, mut holder) = session(&relay);
+    let frame = longest_send();
+    let taken = fill(&mut caller, &frame);
+    (0..taken / frame.len()).for_each(|_| assert!(holder.receive().is_some()));
+    thread::sleep(patience + SLACK);
+    caller.send_bytes(&frame[taken % frame.len()..]);
+    assert_eq!(holder.receive(), encode(&Message::DataReceive { data: &[7; 65_533] }));
+}
+
 /// How long it takes until the relay gives up a holder that reads so many bytes each tenth of a second.
 fn time_until_given_up(bytes: usize, limits: Limits) -> Option<Duration> {
     let relay = Relay::with_limits(JumpingClock::default(), limits);
