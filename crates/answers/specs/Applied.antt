@@ -1,4 +1,4 @@
--- The rules' answers as C has them; and a plan, carried out.
+-- The rules' answers in numbers, as the code has them; and a plan, carried out.
 use Prim.Native.Nat.{ℕ}
 use mathlib.Core.Bool.{true, false}
 use mathlib.Core.List.{List}

@@ -1,4 +1,4 @@
--- What an entry point answers and leaves, as one value; and the same of the rules' outcome, as C has it.
+-- What the work of a call answers and leaves, as one value, without the map; and the same of the rules' outcome.
 use Prim.Native.Nat.{ℕ}
 use mathlib.Core.List.{List}
 use Rattle.rules.specs.Tables.{Tables}

@@ -1,11 +1,10 @@
-// What a call answers; in specs/, a plan of the rules carried out, and the rules' outcome, as C has them.
+// What a call answers beside the map, which call_answers adds; in specs/, a plan of the rules carried out, and the rules' outcome.
 ghost use mathlib.Core.Path.{_≡_};
 ghost use Rattle.rules.specs.Calls.{sentNothing};
 ghost use Rattle.answers.specs.Applied.{answerOf, coded, replied, relayed, toldBoth, disconnected};
 
-// What a call answers, for C: the number, the bytes in the reply and relay buffers, the connection that the relayed message is for or
-// 255, and 1 where the host has to disconnect the caller.
-#[repr(C)]
+// What a call answers, in numbers: that of the check or 0, the bytes in the reply and relay buffers, the connection that the relayed message
+// is for or 255, and 1 where the host has to disconnect the caller.
 pub struct Answer {
     pub number: u32,
     pub reply: u32,

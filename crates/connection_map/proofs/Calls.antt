@@ -72,6 +72,13 @@ done-fits (closing now c relay) d map c< h = without-fits connectionCount c map 
 done-fits (keepalive now c reply relay) true map c< h = without-fits connectionCount c map h
 done-fits (keepalive now c reply relay) false map c< h = h
 
+-- a bit that told whether its connection is closed goes on telling
+tells : (was is bit next : Bool) → BitAfter was is bit next → bit ≡ not was → next ≡ not is
+tells true true bit next x h = x .others refl ∙ h
+tells true false bit next x h = x .opened refl refl
+tells false true bit next x h = x .closed refl refl
+tells false false bit next x h = x .others refl ∙ h
+
 module _ (tables : Tables) (map : ℕ) (call : Call) where
   abbrev o : MappedOutcome
   o = stepWithMap tables map call
@@ -102,16 +109,12 @@ module _ (tables : Tables) (map : ℕ) (call : Call) where
           (done-bits (tables .connections) call _ map k (right-state tables call (done-passed tables call e)))
       go (no n) = rw (refused-leaves-map n, as-without-map, refused-leaves-all tables call n) (untouched _ _)
 
-  -- so that a bit that told which connection is closed goes on telling
-  tells : (was is bit next : Bool) → BitAfter was is bit next → bit ≡ not was → next ≡ not is
-  tells true true bit next x h = x .others refl ∙ h
-  tells true false bit next x h = x .opened refl refl
-  tells false true bit next x h = x .closed refl refl
-  tells false false bit next x h = x .others refl ∙ h
-
   -- "if the map agreed before, it agrees after": of every call, refused or done
   pub agrees-after : Agrees map (tables .connections) → Agrees (o .map) (o .outcome .tables .connections)
-  agrees-after a = record { bits = λ k l. tells _ _ _ _ (only-opened-or-closed k) (a .bits k l); no-others = fits (ℕ-discrete (step tables call .answer .number) 0) }
+  agrees-after a = record {
+    bits = λ k l. tells _ _ _ _ (only-opened-or-closed k) (a .bits k l);
+    no-others = fits (ℕ-discrete (step tables call .answer .number) 0);
+  }
     where
       fits : Dec (step tables call .answer .number ≡ 0) → o .map < 2 ^ connectionCount
       fits (yes e) = rw (done-map e) (done-fits call _ map (passed tables call (done-passed tables call e) .known) (a .no-others))
