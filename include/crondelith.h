@@ -1,4 +1,5 @@
-/* The relay's engine: making a fresh relay, opening a connection, a message from one, closing one, and finding out whether one is dead.
+/* The relay's engine: making a fresh relay, opening a connection, a message from one, closing one, and finding out whether one is dead; and
+ * replaying the journal of its calls.
  *
  * Link libcrondelith.a, which host/build-archives builds; of a C library it needs memcpy and memmove. Each function is total: any bytes,
  * any numbers and any lengths get an answer. The three tables are 4,096, 5,120 and 144 bytes; who calls keeps them between calls and
@@ -47,6 +48,7 @@ typedef struct {
     uint32_t destination; /* a connection, or CRONDELITH_NOBODY */
     uint32_t disconnect;  /* 1: the host has to disconnect the caller */
     uint64_t map;         /* the map of the connections afterwards; that of before, if the call is refused */
+    uint8_t record[16];   /* the call's record in the journal; on 1 to 3, and of a fresh start, sixteen zero bytes */
 } crondelith_answer;
 
 /* Leases are given, renewed and extended for `term` seconds from the time of the call, 600 to 86,400; 0 means 600. The tables keep the term, in
@@ -100,6 +102,36 @@ typedef struct {
 } crondelith_rebuilt;
 
 crondelith_rebuilt crondelith_rebuild(const uint8_t *connections, size_t connections_length);
+
+/* The journal is a file of the calls' records in their order, those of calls answered with 1 to 3 left out; a fresh start begins a new one. A
+ * record, most significant byte first: time 8, connection 1, call 1 (0 open, 1 message, 2 close, 3 keepalive), the message's first byte or 0,
+ * answer 1, charge 4: with 0 what the call was charged, with 9 what it would have cost, else 0.
+ *
+ * Replaying a journal from the time and the term of its fresh start gives the allowances that the relay had after the last record, or the place
+ * of the first record that contradicts the rules: exactly if its connection or call number is out of range; its answer is 1 to 3 or above 9; its
+ * time is 2^40 or more, or below that of the latest done record (at first the fresh start's); it has a charge though it is a close, a keepalive
+ * or a SessionEnd (first byte 9), or though its answer is neither 0 nor 9; its answer is 0 and its charge above what its partner has at that
+ * time; or its answer is 9 and its charge isn't. What is left at the end and is shorter than a record contradicts too, once all before is judged.
+ *
+ * number:       1, 2 or 6 as a fresh start with these allowances, time and term would be refused, before the journal is looked at; else 0.
+ * contradicted: 1, and `place` is the byte at which the record, or what is left at the end, begins. Else both are 0.
+ * The allowances are written, whole, exactly if number and contradicted are 0.
+ */
+typedef struct {
+    uint32_t number;
+    uint32_t contradicted;
+    uint64_t place;
+} crondelith_replayed;
+
+crondelith_replayed crondelith_replay(uint8_t *allowances, size_t allowances_length, const uint8_t *journal, size_t journal_length, uint64_t now,
+                                      uint64_t term);
+
+/* The same by another way, to check it by: every partner's level is filled once for each second. It answers the same of every journal; of the
+ * allowances it writes each level as it is at the time of the latest done record (at first the start), with that time beside it. At that time
+ * and at any later one both give the same levels.
+ */
+crondelith_replayed crondelith_replay_plain(uint8_t *allowances, size_t allowances_length, const uint8_t *journal, size_t journal_length,
+                                            uint64_t now, uint64_t term);
 
 /* Why is a call turned away, or what decides it? These answer for the call that the function without 'explain_' in its name would be
  * asked for, from the same tables and with buffers of such lengths; they only read. Link libcrondelith_reasons.a.

@@ -6,7 +6,7 @@ ghost use Rattle.allowance.specs.Bucket.{levelNow};
 // The most that a bucket holds, what it gets for each second, and after how many seconds any bucket is full.
 pub const CAPACITY: u64 = 262144;
 
-const REFILL_RATE: u64 = 65536;
+pub const REFILL_RATE: u64 = 65536;
 
 const FULL_AFTER: u64 = CAPACITY / REFILL_RATE;
 

@@ -8,7 +8,7 @@ ghost use Rattle.rules.specs.Sizes.{connectionCount, leastBuffer};
 ghost use Rattle.rules.specs.Calls.{closing};
 ghost use Rattle.rules.specs.Plans.{plan};
 ghost use Rattle.rules.specs.Step.{done};
-ghost use Rattle.connection_map.specs.Steps.{stepWithMap};
+ghost use Rattle.journal.specs.Steps.{stepRecorded};
 ghost use Rattle.answers.specs.Results.{result, shown};
 ghost use Rattle.call_answers.specs.Returned.{returned, asReturned};
 use answers::Answer;
@@ -53,7 +53,7 @@ pub extern "C" fn crondelith_close(
     relay: &mut [u8],
 ) -> CallAnswer
     ensures { λ r. ⌜ returned r (lent (now (connections .exit)) (now (leases .exit)) (now (allowances .exit))) [] (now (relay .exit))
-        ≡ asReturned (stepWithMap (lent (now (connections .entry)) (now (leases .entry)) (now (allowances .entry))) map
+        ≡ asReturned (stepRecorded (lent (now (connections .entry)) (now (leases .entry)) (now (allowances .entry))) map
         (closing time connection (now (relay .entry)))) ⌝ }
 {
     let refusal = refusals::close::refusal(
@@ -65,9 +65,11 @@ pub extern "C" fn crondelith_close(
         relay.len(),
     );
     if refusal != 0 {
-        return call_answers::refused(refusal, map);
+        let recorded = journal_records::close_record(refusal, time, connection);
+        return call_answers::refused(refusal, map, recorded);
     }
     let c = connection as u8;
     let answer = accept(connections, leases, allowances, time, c, relay);
-    call_answers::closed(answer, map, c)
+    let recorded = journal_records::close_record(0, time, connection);
+    call_answers::closed(answer, map, c, recorded)
 }

@@ -9,7 +9,7 @@ ghost use Rattle.rules.specs.Sizes.{connectionCount, connectionsSize, leastBuff
 ghost use Rattle.rules.specs.Keepalives.{ask};
 ghost use Rattle.rules.specs.Calls.{keepalive};
 ghost use Rattle.rules.specs.Plans.{replyOnly, disconnecting, planClose, planKeepalive};
-ghost use Rattle.connection_map.specs.Steps.{stepWithMap};
+ghost use Rattle.journal.specs.Steps.{stepRecorded};
 ghost use Rattle.answers.specs.Applied.{handled, applied};
 ghost use Rattle.call_answers.specs.Returned.{returned, asReturned};
 ghost use Rattle.relay_keepalive.specs.Asked.{Askable};
@@ -74,7 +74,7 @@ pub extern "C" fn crondelith_keepalive(
 ) -> CallAnswer
     ensures { λ r. ⌜ returned r (lent (now (connections .exit)) (now (leases .exit)) (now (allowances .exit))) (now (reply .exit))
         (now (relay .exit))
-        ≡ asReturned (stepWithMap (lent (now (connections .entry)) (now (leases .entry)) (now (allowances .entry))) map
+        ≡ asReturned (stepRecorded (lent (now (connections .entry)) (now (leases .entry)) (now (allowances .entry))) map
         (keepalive time connection (now (reply .entry)) (now (relay .entry)))) ⌝ }
 {
     let refusal = refusals::keepalive::refusal(
@@ -87,7 +87,8 @@ pub extern "C" fn crondelith_keepalive(
         relay.len(),
     );
     if refusal != 0 {
-        return call_answers::refused(refusal, map);
+        let recorded = journal_records::keepalive_record(refusal, time, connection);
+        return call_answers::refused(refusal, map, recorded);
     }
     let c = connection as u8;
     let answer = attend(connections, leases, time, c, reply, relay);
@@ -100,5 +101,6 @@ pub extern "C" fn crondelith_keepalive(
         answer.destination,
     );
     allowance_table::set_clock(allowances, time);
-    call_answers::closed_if_disconnected(answer, map, c)
+    let recorded = journal_records::keepalive_record(0, time, connection);
+    call_answers::closed_if_disconnected(answer, map, c, recorded)
 }

@@ -14,7 +14,7 @@ use Rattle.rules.specs.Leases.{LeaseDecision, holdsLease, noSpareRow, cookieInU
 use Rattle.rules.specs.Sessions.{EstablishDecision, refusedWith, establishedWith, decideEstablish}
 use Rattle.rules.specs.Keepalives.{answered, stamp}
 use Rattle.rules.specs.Calls.{Call, message}
-use Rattle.rules.specs.Charges.{charge}
+use Rattle.rules.specs.Charges.{charge, price}
 use Rattle.rules.specs.Checks.{wrongLengths, notFromPeer, precheck, check}
 use Rattle.rules.specs.Plans.{Plan, plan, planCall, planMessage, planDecided}
 use Rattle.rules.specs.Step.{step}
@@ -22,6 +22,8 @@ use Rattle.rules.proofs.Answers.{answer-is-check, done-passed}
 use Rattle.rules.proofs.Decisions.{is-renewed, is-granted}
 use Rattle.rules.proofs.Plans.{every-decision}
 use Rattle.statuses.proofs.Ways.{status-range}
+use Rattle.journal.specs.Records.{priced}
+use Rattle.journal.proofs.Records.{priced-passed}
 use Rattle.answers.specs.declared.Answer.{Answer}
 use Rattle.answers.specs.Applied.{handled, applied}
 use Rattle.answers.specs.Results.{result, shown}
@@ -36,6 +38,14 @@ use Rattle.message_refusal.specs.declared.Assessment.{Assessment}
 use Rattle.message_refusal.specs.Assessed.{assessedAs, assessed}
 use Rattle.message_refusal.proofs.MessageStops.{assessed-number, assessed-price, assessed-decision}
 use Rattle.dispatch.specs.Asked.{Admitted, Feasible}
+
+-- The price that is handed on is the call's where the journal has it: with 0 and with 9.
+pub recorded-price : (tables : Tables) (time c : ℕ) (m random reply relay : List ℕ) (f : Assessment)
+    → assessedAs f m random ≡ assessed tables time c m random reply relay → priced (f .number) ≡ true
+    → f .price ≡ price tables (message time c m random reply relay)
+recorded-price tables time c m random reply relay f all h =
+    assessed-price tables time c m random reply relay f all
+    (priced-passed tables (message time c m random reply relay) (rw (← assessed-number tables time c m random reply relay f all) h))
 
 -- what passed checks show; f is what they hand on
 module _

@@ -2,7 +2,7 @@
 ghost use mathlib.Core.Path.{_≡_};
 ghost use Rattle.rules.specs.Tables.{lent};
 ghost use Rattle.rules.specs.Calls.{message};
-ghost use Rattle.connection_map.specs.Steps.{stepWithMap};
+ghost use Rattle.journal.specs.Steps.{stepRecorded};
 ghost use Rattle.call_answers.specs.Returned.{returned, asReturned};
 use call_answers::CallAnswer;
 
@@ -21,7 +21,7 @@ pub extern "C" fn crondelith_message(
 ) -> CallAnswer
     ensures { λ r. ⌜ returned r (lent (now (connections .exit)) (now (leases .exit)) (now (allowances .exit))) (now (reply .exit))
         (now (relay .exit))
-        ≡ asReturned (stepWithMap (lent (now (connections .entry)) (now (leases .entry)) (now (allowances .entry))) map
+        ≡ asReturned (stepRecorded (lent (now (connections .entry)) (now (leases .entry)) (now (allowances .entry))) map
         (message time connection (now (m .entry)) (now (random .entry)) (now (reply .entry)) (now (relay .entry)))) ⌝ }
 {
     let assessment = message_refusal::assess(
@@ -35,8 +35,11 @@ pub extern "C" fn crondelith_message(
         reply.len(),
         relay.len(),
     );
-    if assessment.number != 0 {
-        return call_answers::refused(assessment.number, map);
+    let number = assessment.number;
+    let price = assessment.price;
+    if number != 0 {
+        let recorded = journal_records::message_record(number, time, connection, m, price);
+        return call_answers::refused(number, map, recorded);
     }
     let c = connection as u8;
     let decision = assessment.decision;
@@ -61,6 +64,7 @@ pub extern "C" fn crondelith_message(
         answer.relay,
         answer.destination,
     );
-    charges::settle(allowances, time, c, m, assessment.price);
-    call_answers::closed_if_disconnected(answer, map, c)
+    charges::settle(allowances, time, c, m, price);
+    let recorded = journal_records::message_record(0, time, connection, m, price);
+    call_answers::closed_if_disconnected(answer, map, c, recorded)
 }

@@ -8,7 +8,7 @@ ghost use Rattle.rules.specs.Sizes.{openCost, leastBuffer};
 ghost use Rattle.rules.specs.Calls.{opening};
 ghost use Rattle.rules.specs.Plans.{plan};
 ghost use Rattle.rules.specs.Step.{done};
-ghost use Rattle.connection_map.specs.Steps.{stepWithMap};
+ghost use Rattle.journal.specs.Steps.{stepRecorded};
 ghost use Rattle.answers.specs.Results.{result, shown};
 ghost use Rattle.refusals.specs.Passed.{Payable};
 ghost use Rattle.call_answers.specs.Returned.{returned, asReturned};
@@ -54,7 +54,7 @@ pub extern "C" fn crondelith_open(
     reply: &mut [u8],
 ) -> CallAnswer
     ensures { λ r. ⌜ returned r (lent (now (connections .exit)) (now (leases .exit)) (now (allowances .exit))) (now (reply .exit)) []
-        ≡ asReturned (stepWithMap (lent (now (connections .entry)) (now (leases .entry)) (now (allowances .entry))) map
+        ≡ asReturned (stepRecorded (lent (now (connections .entry)) (now (leases .entry)) (now (allowances .entry))) map
         (opening time connection (now (reply .entry)))) ⌝ }
 {
     let refusal = refusals::open::refusal(
@@ -66,9 +66,11 @@ pub extern "C" fn crondelith_open(
         reply.len(),
     );
     if refusal != 0 {
-        return call_answers::refused(refusal, map);
+        let recorded = journal_records::open_record(refusal, time, connection);
+        return call_answers::refused(refusal, map, recorded);
     }
     let c = connection as u8;
     let answer = accept(connections, allowances, time, c, reply);
-    call_answers::opened(answer, map, c)
+    let recorded = journal_records::open_record(0, time, connection);
+    call_answers::opened(answer, map, c, recorded)
 }

@@ -14,6 +14,8 @@ pub const RANDOM: usize = 80;
 /// The least reply buffer; a relay buffer also holds as many bytes as the message.
 pub const BUFFER: usize = 64;
 pub const NOBODY: u32 = 255;
+/// Bytes of a record of the journal.
+pub const RECORD: usize = 16;
 
 /// `crondelith_answer`.
 #[repr(C)]
@@ -31,15 +33,21 @@ pub struct Answer {
     pub disconnect: u32,
     /// The map of the connections afterwards: bit c, from the lowest, is 1 while connection c isn't closed.
     pub map: u64,
+    /// The call's record in the journal; zero bytes on 1 to 3, and of a fresh start.
+    pub record: Record,
 }
 
-// host/c/crondelith_check.c has the same numbers about the header's struct.
-const _: () = assert!(size_of::<Answer>() == 32 && align_of::<Answer>() == 8 && offset_of!(Answer, map) == 24);
+/// A record of the journal, as bytes.
+pub type Record = [u8; RECORD];
 
-/// The numbers in the order above, the map apart.
-impl From<([u32; 5], u64)> for Answer {
-    fn from(([number, reply, relay, destination, disconnect], map): ([u32; 5], u64)) -> Self {
-        Self { number, reply, relay, destination, disconnect, map }
+// host/c/crondelith_check.c has the same numbers about the header's struct.
+const _: () = assert!(size_of::<Answer>() == 48 && align_of::<Answer>() == 8);
+const _: () = assert!(offset_of!(Answer, map) == 24 && offset_of!(Answer, record) == 32);
+
+/// The numbers in the order above, the map and the record apart.
+impl From<([u32; 5], u64, Record)> for Answer {
+    fn from(([number, reply, relay, destination, disconnect], map, record): ([u32; 5], u64, Record)) -> Self {
+        Self { number, reply, relay, destination, disconnect, map, record }
     }
 }
 
@@ -68,6 +76,20 @@ pub struct Rebuilt {
 }
 
 const _: () = assert!(size_of::<Rebuilt>() == 16 && align_of::<Rebuilt>() == 8 && offset_of!(Rebuilt, map) == 8);
+
+/// `crondelith_replayed`.
+#[repr(C)]
+#[derive(Clone, Copy, Debug, PartialEq, Eq)]
+pub struct Replayed {
+    /// 0, or 1, 2 or 6 as a fresh start is refused.
+    pub number: u32,
+    /// 1 if the journal is contradicted: then the allowances have not changed.
+    pub contradicted: u32,
+    /// The byte at which the first record that contradicts the rules begins, or what is left at the end; else 0.
+    pub place: u64,
+}
+
+const _: () = assert!(size_of::<Replayed>() == 16 && align_of::<Replayed>() == 8 && offset_of!(Replayed, place) == 8);
 
 /// The three tables, lent for a call. Another length than the table's is refused.
 #[derive(Debug)]
@@ -183,4 +205,39 @@ pub fn connections_of(map: u64, partner: u64) -> PartnerConnections {
 pub fn rebuild(connections: &[u8]) -> Rebuilt {
     // SAFETY: the pointer and the length are those of a slice borrowed for the call; the function only reads within it.
     unsafe { map::crondelith_rebuild(connections.as_ptr(), connections.len()) }
+}
+
+mod journal {
+    extern "C" {
+        pub fn crondelith_replay(
+            allowances: *mut u8,
+            allowances_length: usize,
+            journal: *const u8,
+            journal_length: usize,
+            now: u64,
+            term: u64,
+        ) -> super::Replayed;
+        pub fn crondelith_replay_plain(
+            allowances: *mut u8,
+            allowances_length: usize,
+            journal: *const u8,
+            journal_length: usize,
+            now: u64,
+            term: u64,
+        ) -> super::Replayed;
+    }
+}
+
+/// The allowances after the calls of a journal, which begins with a fresh start at that time and with that term; or where it is contradicted.
+pub fn replay(allowances: &mut [u8], journal: &[u8], now: u64, term: u64) -> Replayed {
+    let (al, al_length) = (allowances.as_mut_ptr(), allowances.len());
+    // SAFETY: the pointers and lengths are those of two slices borrowed for the call; the function stays within them.
+    unsafe { journal::crondelith_replay(al, al_length, journal.as_ptr(), journal.len(), now, term) }
+}
+
+/// The same, by filling every level once for each second; each level is written at the time of the latest done record.
+pub fn replay_plain(allowances: &mut [u8], journal: &[u8], now: u64, term: u64) -> Replayed {
+    let (al, al_length) = (allowances.as_mut_ptr(), allowances.len());
+    // SAFETY: as above.
+    unsafe { journal::crondelith_replay_plain(al, al_length, journal.as_ptr(), journal.len(), now, term) }
 }

@@ -10,12 +10,12 @@ closed-requires c κs = search needs
 returns : tie.Need-returns
 returns c = rw (c .closed .ensures, eq-eqb _ 1 (c .before .if1 .taken))
 
-with-map-requires : tie.Need-with-map-requires
-with-map-requires c κs = search needs
+answered-requires : tie.Need-answered-requires
+answered-requires c κs = search needs
 
 returns-2 : tie.Need-returns-2
-returns-2 c = rw (c .with-map .ensures, ne-eqb _ 1 (c .before .if1 .left))
+returns-2 c = rw (c .answered .ensures, ne-eqb _ 1 (c .before .if1 .left))
 
 pub closed-if-disconnected-spec : {M : Type 1} → statement M
 closed-if-disconnected-spec =
-    tie.close (tie.spec closed-requires returns with-map-requires returns-2)
+    tie.close (tie.spec closed-requires returns answered-requires returns-2)

@@ -6,11 +6,11 @@ use Rattle.call_answers.proofs.opened.Tie as tie
 with-bit-requires : tie.Need-with-bit-requires
 with-bit-requires c κs = search needs
 
-with-map-requires : tie.Need-with-map-requires
-with-map-requires c κs = search needs
+answered-requires : tie.Need-answered-requires
+answered-requires c κs = search needs
 
 returns : tie.Need-returns
-returns c = rw (c .with-map .ensures, c .before .with-bit .ensures)
+returns c = rw (c .answered .ensures, c .before .with-bit .ensures)
 
 pub opened-spec : {M : Type 1} → statement M
-opened-spec = tie.close (tie.spec with-bit-requires with-map-requires returns)
+opened-spec = tie.close (tie.spec with-bit-requires answered-requires returns)

@@ -48,8 +48,8 @@ fresh-allowances-requires c κs =
 sent-nothing-requires : tie.Need-sent-nothing-requires
 sent-nothing-requires c κs = search needs
 
-with-map-requires : tie.Need-with-map-requires
-with-map-requires c κs = search needs
+answered-requires : tie.Need-answered-requires
+answered-requires c κs = search needs
 
 same-length-4 : tie.Need-same-length-4
 same-length-4 c = search needs
@@ -64,7 +64,7 @@ returns-2 : tie.Need-returns-2
 returns-2 c =
     let a = c .before .before .before .before .before .before .before .before .before .before .before .before .before .before .before .before .before .before .before .before .before .before .args in
     let tables = lent (a .connections .now) (a .leases .now) (a .allowances .now) in
-    start-done tables (a .map) (a .time) (a .term) _ (c .before .before .before .before .before .before .before .before .before .before .before .before .before .before .before .refusal .ensures) (c .before .before .before .before .before .before .before .before .before .before .before .before .before .before .if1 .left) _ _ _ _ _ (c .before .sent-nothing .ensures) (c .with-map .ensures)
+    start-done tables (a .map) (a .time) (a .term) _ (c .before .before .before .before .before .before .before .before .before .before .before .before .before .before .before .refusal .ensures) (c .before .before .before .before .before .before .before .before .before .before .before .before .before .before .if1 .left) _ _ _ _ _ (c .before .sent-nothing .ensures) (c .answered .ensures)
     (c .before .before .before .before .before .before .before .before .before .before .before .before .fresh-connections .ensures (a .time) (a .term)) (c .before .before .before .before .before .before .before .before .fresh-leases .ensures (a .time) (a .term)) (c .before .before .before .before .fresh-allowances .ensures)
 
 pub crondelith-fresh-spec : {M : Type 1} → statement M
@@ -81,7 +81,7 @@ crondelith-fresh-spec =
     fresh-leases-requires
     fresh-allowances-requires
     sent-nothing-requires
-    with-map-requires
+    answered-requires
     same-length-4
     same-length-5
     same-length-6

@@ -5,14 +5,17 @@ use Rattle.rules.specs.Tables.{lent}
 use Rattle.rules.specs.Calls.{message}
 use Rattle.connection_map.specs.Maps.{mapOfDone}
 use Rattle.message_refusal.proofs.MessageStops.{assessed-number}
-use Rattle.call_answers.proofs.Ways.{refused-mapped, settled-mapped}
-use Rattle.relay_message.proofs.Ways.{admitted, feasible, admitted-payable, message-way}
+use Rattle.call_answers.proofs.Ways.{refused-recorded, settled-recorded}
+use Rattle.relay_message.proofs.Ways.{recorded-price, admitted, feasible, admitted-payable, message-way}
 use borrow.Author.Needs.{needs}
 use Rattle.relay_message.proofs.crondelith_message.Statement.{statement}
 use Rattle.relay_message.proofs.crondelith_message.Tie as tie
 
 assess-requires : tie.Need-assess-requires
 assess-requires c κs = search needs
+
+message-record-requires : tie.Need-message-record-requires
+message-record-requires c κs = search needs
 
 refused-requires : tie.Need-refused-requires
 refused-requires c κs = search needs
@@ -28,27 +31,28 @@ same-length-3 c = search needs
 
 returns : tie.Need-returns
 returns c =
-    let s = c .before in
-    let a = s .before .before .before .before .before .before .before .before .before .before .before .before .before .args in
+    let s = c .before .before in
+    let a = s .before .before .before .before .before .before .before .before .before .before .before .before .args in
     let tables = lent (a .connections .now) (a .leases .now) (a .allowances .now) in
-    let all = s .before .before .assess .ensures (a .reply .now) (a .relay .now) refl refl in
-    refused-mapped tables (a .map) (message (a .time) (a .connection) (a .m .now) (a .random .now) (a .reply .now) (a .relay .now)) _ (assessed-number tables (a .time) (a .connection) (a .m .now) (a .random .now) (a .reply .now) (a .relay .now) (s .before .before .assess .result) all) (s .if1 .taken) _ (c .refused .ensures)
+    let all = s .before .assess .ensures (a .reply .now) (a .relay .now) refl refl in
+    refused-recorded tables (a .map) (message (a .time) (a .connection) (a .m .now) (a .random .now) (a .reply .now) (a .relay .now)) _ (assessed-number tables (a .time) (a .connection) (a .m .now) (a .random .now) (a .reply .now) (a .relay .now) (s .before .assess .result) all)
+    _ (recorded-price tables (a .time) (a .connection) (a .m .now) (a .random .now) (a .reply .now) (a .relay .now) (s .before .assess .result) all) _ (s .if1 .taken) (c .before .message-record .ensures) _ (c .refused .ensures)
 
 cast-c : tie.Need-cast-c
 cast-c c =
     let s = c in
-    let a = s .before .before .before .before .before .before .before .before .before .before .before .before .before .args in
+    let a = s .before .before .before .before .before .before .before .before .before .before .before .before .args in
     let tables = lent (a .connections .now) (a .leases .now) (a .allowances .now) in
-    let all = s .before .before .assess .ensures (a .reply .now) (a .relay .now) refl refl in
-    omega (arith, admitted tables (a .time) (a .connection) (a .m .now) (a .random .now) (a .reply .now) (a .relay .now) (s .before .before .assess .result) all (s .if1 .left) .known)
+    let all = s .before .assess .ensures (a .reply .now) (a .relay .now) refl refl in
+    omega (arith, admitted tables (a .time) (a .connection) (a .m .now) (a .random .now) (a .reply .now) (a .relay .now) (s .before .assess .result) all (s .if1 .left) .known)
 
 handle-requires : tie.Need-handle-requires
 handle-requires c κs =
     let s = c .before .before .before .before .before in
-    let a = s .before .before .before .before .before .before .before .before .before .before .before .before .before .args in
+    let a = s .before .before .before .before .before .before .before .before .before .before .before .before .args in
     let tables = lent (a .connections .now) (a .leases .now) (a .allowances .now) in
-    let all = s .before .before .assess .ensures (a .reply .now) (a .relay .now) refl refl in
-    (admitted tables (a .time) (a .connection) (a .m .now) (a .random .now) (a .reply .now) (a .relay .now) (s .before .before .assess .result) all (s .if1 .left), feasible tables (a .time) (a .connection) (a .m .now) (a .random .now) (a .reply .now) (a .relay .now) (s .before .before .assess .result) all (s .if1 .left))
+    let all = s .before .assess .ensures (a .reply .now) (a .relay .now) refl refl in
+    (admitted tables (a .time) (a .connection) (a .m .now) (a .random .now) (a .reply .now) (a .relay .now) (s .before .assess .result) all (s .if1 .left), feasible tables (a .time) (a .connection) (a .m .now) (a .random .now) (a .reply .now) (a .relay .now) (s .before .assess .result) all (s .if1 .left))
 
 answered-requires : tie.Need-answered-requires
 answered-requires c κs = search needs
@@ -59,18 +63,21 @@ sent-requires c κs = search needs
 settle-requires : tie.Need-settle-requires
 settle-requires c κs =
     let s = c .before .before .before .before .before .before .before .before .before .before .before .before .before .before .before .before .before .before .before .before .before .before .before in
-    let a = s .before .before .before .before .before .before .before .before .before .before .before .before .before .args in
+    let a = s .before .before .before .before .before .before .before .before .before .before .before .before .args in
     let tables = lent (a .connections .now) (a .leases .now) (a .allowances .now) in
-    let all = s .before .before .assess .ensures (a .reply .now) (a .relay .now) refl refl in
-    admitted-payable tables (a .time) (a .connection) (a .m .now) (a .random .now) (a .reply .now) (a .relay .now) (s .before .before .assess .result) all (s .if1 .left)
+    let all = s .before .assess .ensures (a .reply .now) (a .relay .now) refl refl in
+    admitted-payable tables (a .time) (a .connection) (a .m .now) (a .random .now) (a .reply .now) (a .relay .now) (s .before .assess .result) all (s .if1 .left)
+
+message-record-requires-2 : tie.Need-message-record-requires-2
+message-record-requires-2 c κs = search needs
 
 closed-if-disconnected-requires : tie.Need-closed-if-disconnected-requires
 closed-if-disconnected-requires c κs =
-    let s = c .before .before .before .before .before .before .before .before .before .before .before .before .before .before .before .before .before .before .before .before .before .before .before .before .before .before in
-    let a = s .before .before .before .before .before .before .before .before .before .before .before .before .before .args in
+    let s = c .before .before .before .before .before .before .before .before .before .before .before .before .before .before .before .before .before .before .before .before .before .before .before .before .before .before .before in
+    let a = s .before .before .before .before .before .before .before .before .before .before .before .before .args in
     let tables = lent (a .connections .now) (a .leases .now) (a .allowances .now) in
-    let all = s .before .before .assess .ensures (a .reply .now) (a .relay .now) refl refl in
-    omega (arith, admitted tables (a .time) (a .connection) (a .m .now) (a .random .now) (a .reply .now) (a .relay .now) (s .before .before .assess .result) all (s .if1 .left) .known)
+    let all = s .before .assess .ensures (a .reply .now) (a .relay .now) refl refl in
+    omega (arith, admitted tables (a .time) (a .connection) (a .m .now) (a .random .now) (a .reply .now) (a .relay .now) (s .before .assess .result) all (s .if1 .left) .known)
 
 same-length-4 : tie.Need-same-length-4
 same-length-4 c = search needs
@@ -90,13 +97,14 @@ same-length-8 c = search needs
 returns-2 : tie.Need-returns-2
 unfolding mapOfDone
 returns-2 c =
-    let s = c .before .before .before .before .before .before .before .before .before .before .before .before .before .before .before .before .before .before .before .before .before .before .before .before .before .before .before in
-    let a = s .before .before .before .before .before .before .before .before .before .before .before .before .before .args in
+    let s = c .before .before .before .before .before .before .before .before .before .before .before .before .before .before .before .before .before .before .before .before .before .before .before .before .before .before .before .before in
+    let a = s .before .before .before .before .before .before .before .before .before .before .before .before .args in
     let tables = lent (a .connections .now) (a .leases .now) (a .allowances .now) in
-    let all = s .before .before .assess .ensures (a .reply .now) (a .relay .now) refl refl in
-    settled-mapped tables (a .map) (message (a .time) (a .connection) (a .m .now) (a .random .now) (a .reply .now) (a .relay .now)) _ (assessed-number tables (a .time) (a .connection) (a .m .now) (a .random .now) (a .reply .now) (a .relay .now) (s .before .before .assess .result) all) (s .if1 .left) _ _ _ _
-    (message-way tables (a .time) (a .connection) (a .m .now) (a .random .now) (a .reply .now) (a .relay .now) (s .before .before .assess .result) all (s .if1 .left) _ _ _ _ _ _ (c .before .before .before .before .before .before .before .before .before .before .before .before .before .before .before .before .before .before .before .before .before .handle .result) (c .before .before .before .before .before .before .before .before .before .before .before .before .before .before .before .before .before .before .before .before .before .handle .ensures)
-    (c .before .before .before .before .before .before .before .sent .ensures ∙ rw (c .before .before .before .before .before .before .before .before .before .before .before .answered .ensures)) (c .before .before .before .settle .ensures (a .random .now) (a .reply .now) (a .relay .now)))
+    let all = s .before .assess .ensures (a .reply .now) (a .relay .now) refl refl in
+    settled-recorded tables (a .map) (message (a .time) (a .connection) (a .m .now) (a .random .now) (a .reply .now) (a .relay .now)) _ (assessed-number tables (a .time) (a .connection) (a .m .now) (a .random .now) (a .reply .now) (a .relay .now) (s .before .assess .result) all)
+    _ (recorded-price tables (a .time) (a .connection) (a .m .now) (a .random .now) (a .reply .now) (a .relay .now) (s .before .assess .result) all) _ (s .if1 .left) (c .before .message-record2 .ensures) _ _ _ _
+    (message-way tables (a .time) (a .connection) (a .m .now) (a .random .now) (a .reply .now) (a .relay .now) (s .before .assess .result) all (s .if1 .left) _ _ _ _ _ _ (c .before .before .before .before .before .before .before .before .before .before .before .before .before .before .before .before .before .before .before .before .before .before .handle .result) (c .before .before .before .before .before .before .before .before .before .before .before .before .before .before .before .before .before .before .before .before .before .before .handle .ensures)
+    (c .before .before .before .before .before .before .before .before .sent .ensures ∙ rw (c .before .before .before .before .before .before .before .before .before .before .before .before .answered .ensures)) (c .before .before .before .before .settle .ensures (a .random .now) (a .reply .now) (a .relay .now)))
     _ (λ d. refl) (c .closed-if-disconnected .ensures)
 
 pub crondelith-message-spec : {M : Type 1} → statement M
@@ -104,6 +112,7 @@ crondelith-message-spec =
     tie.close
     (tie.spec
     assess-requires
+    message-record-requires
     refused-requires
     same-length
     same-length-2
@@ -114,6 +123,7 @@ crondelith-message-spec =
     answered-requires
     sent-requires
     settle-requires
+    message-record-requires-2
     closed-if-disconnected-requires
     same-length-4
     same-length-5

@@ -1,0 +1,9 @@
+pub mod Records
+pub mod Contradictions
+pub mod Written
+pub mod Runs
+pub mod Filling
+pub mod LevelTables
+pub mod Plain
+pub mod Places
+pub mod Bounded

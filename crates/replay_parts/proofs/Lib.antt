@@ -1,0 +1,4 @@
+pub mod Refusals
+pub mod Turns
+pub mod ItemTurns
+pub mod Judging
