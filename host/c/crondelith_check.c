@@ -1,25 +1,30 @@
 /* A scene over the compiled engine, through include/crondelith.h as a C program would call it: two connections of one partner lease
  * an id, hold a session, use up their allowance and leave, and each refusal from 1 to 9 comes. After power cuts others come back with
  * the cookie and have the id again, and one that no longer answers is found. The map goes from call to call. Before that, relays of
- * several terms lease an id each; at last a partner takes all its numbers, and maps disagree with the tables. What must come back was
- * worked out from the scope document and the requests by hand. Every other case is compared in Rust (host/compare). */
+ * several terms lease an id each; the journal of all that is replayed. At last a partner takes all its numbers, maps disagree with the
+ * tables, and journals contradict the rules. What must come back was worked out from the scope document and the requests by hand. Every
+ * other case is compared in Rust (host/compare). */
 #include <string.h>
 
 #include "check.h"
 #include "crondelith.h"
 
 /* host/engine/src/relay.rs has the same numbers about its structs. */
-_Static_assert(sizeof(crondelith_answer) == 32 && _Alignof(crondelith_answer) == 8, "crondelith_answer");
+_Static_assert(sizeof(crondelith_answer) == 48 && _Alignof(crondelith_answer) == 8, "crondelith_answer");
 _Static_assert(offsetof(crondelith_answer, reply) == 4 && offsetof(crondelith_answer, relay) == 8, "crondelith_answer");
 _Static_assert(offsetof(crondelith_answer, destination) == 12, "crondelith_answer");
 _Static_assert(offsetof(crondelith_answer, disconnect) == 16, "crondelith_answer");
-_Static_assert(offsetof(crondelith_answer, map) == 24, "crondelith_answer");
+_Static_assert(offsetof(crondelith_answer, map) == 24 && offsetof(crondelith_answer, record) == 32, "crondelith_answer");
+_Static_assert(sizeof ((crondelith_answer *)0)->record == 16, "crondelith_answer");
 _Static_assert(sizeof(crondelith_partner_connections) == 12, "crondelith_partner_connections");
 _Static_assert(_Alignof(crondelith_partner_connections) == 4, "crondelith_partner_connections");
 _Static_assert(offsetof(crondelith_partner_connections, connections) == 4, "crondelith_partner_connections");
 _Static_assert(offsetof(crondelith_partner_connections, lowest) == 8, "crondelith_partner_connections");
 _Static_assert(sizeof(crondelith_rebuilt) == 16 && _Alignof(crondelith_rebuilt) == 8, "crondelith_rebuilt");
 _Static_assert(offsetof(crondelith_rebuilt, map) == 8, "crondelith_rebuilt");
+_Static_assert(sizeof(crondelith_replayed) == 16 && _Alignof(crondelith_replayed) == 8, "crondelith_replayed");
+_Static_assert(offsetof(crondelith_replayed, contradicted) == 4, "crondelith_replayed");
+_Static_assert(offsetof(crondelith_replayed, place) == 8, "crondelith_replayed");
 
 static uint8_t connections[CRONDELITH_CONNECTIONS], leases[CRONDELITH_LEASES], allowances[CRONDELITH_ALLOWANCES];
 static uint8_t reply[CRONDELITH_BUFFER], relay[65534];
@@ -47,7 +52,28 @@ static uint8_t expected_leases[CRONDELITH_LEASES];
 /* The map that each call is handed, and the one that it has to give back. */
 static uint64_t map, expected_map;
 
+/* The journal since the last fresh start. */
+#define RECORD 16
+static uint8_t journal[RECORD * 200];
+static size_t journal_length;
+
 #define TABLES connections, sizeof connections, leases, sizeof leases, allowances, sizeof allowances, map
+
+/* Calls answered with 1 to 3 have no record; those of all others go into the journal. */
+static void note(const uint8_t *record, uint32_t number) {
+    static const uint8_t none[RECORD];
+    if (number >= 1 && number <= 3) {
+        CHECK(memcmp(record, none, RECORD) == 0);
+    } else if (journal_length < sizeof journal) {
+        memcpy(journal + journal_length, record, RECORD);
+        journal_length += RECORD;
+    }
+}
+
+/* The last record that was noted. */
+static void check_noted(const char *bytes) {
+    CHECK(journal_length >= RECORD && memcmp(journal + journal_length - RECORD, bytes, RECORD) == 0);
+}
 
 static void check_answer(crondelith_answer answer, uint32_t number, uint32_t in_reply, uint32_t in_relay, uint32_t destination,
                          uint32_t disconnect) {
@@ -56,6 +82,7 @@ static void check_answer(crondelith_answer answer, uint32_t number, uint32_t in_
     CHECK(answer.destination == destination && answer.disconnect == disconnect);
     CHECK(answer.map == expected_map);
     map = answer.map;
+    note(answer.record, answer.number);
 }
 
 /* The map is this one, and agrees with the connection table. */
@@ -100,6 +127,8 @@ static uint64_t number_at(const uint8_t *bytes) {
     return number;
 }
 
+#define NO_RECORD "\0\0\0\0\0\0\0\0" "\0\0\0\0" "\0\0\0\0"
+
 /* A table too short, and then a time too late, comes before the term. Nothing is written, and the map comes back, which is any. */
 static void check_fresh_refusals(void) {
     static const uint64_t terms[] = {1, 599, 86401, UINT64_C(1) << 32, (UINT64_C(1) << 32) + 600, UINT64_MAX};
@@ -111,6 +140,7 @@ static void check_fresh_refusals(void) {
                       1);
         check_refused(crondelith_fresh(TABLES, too_late, terms[place]), 2);
         check_refused(crondelith_fresh(TABLES, too_late - 1, terms[place]), 6);
+        check_noted(NO_RECORD);
     }
     check_refused(crondelith_fresh(TABLES, too_late, 600), 2);
     CHECK(connections[1] == 0 && leases[12] == 0 && number_at(allowances) == 0 && number_at(allowances + TERM) == 0);
@@ -123,6 +153,8 @@ static void check_fresh(uint64_t term, uint64_t stored) {
     CHECK(memcmp(allowances, "\0\0\0\0\0\4\0\0\0\0\0\0\0\0\0\144", 16) == 0);
     CHECK(number_at(allowances + TERM) == stored && number_at(allowances + TERM + 8) == 100);
     check_map(0);
+    check_noted(NO_RECORD);
+    journal_length = 0;
 }
 
 static void check_comes(uint64_t now, uint64_t connection) {
@@ -175,12 +207,16 @@ static void check_opens(void) {
     check_refused(crondelith_open(TABLES, 100, UINT64_MAX, reply, sizeof reply), 3);
     check_refused(send(100, 8, "\15", 1), 4);
     check_refused(crondelith_open(TABLES, 100, 8, reply, sizeof reply - 1), 5);
+    check_noted("\0\0\0\0\0\0\0\144" "\10\0\0\5" "\0\0\0\0");
     check_open(100, 8);
+    check_noted("\0\0\0\0\0\0\0\144" "\10\0\0\0" "\0\0\0\55");
     check_map(0x100);
     check_open(100, 9);
     check_map(0x300);
     check_refused(send(100, 8, NULL, 0), 6);
+    check_noted("\0\0\0\0\0\0\0\144" "\10\1\0\6" "\0\0\0\0");
     check_refused(send(100, 8, "\2\0", 2), 7);
+    check_noted("\0\0\0\0\0\0\0\144" "\10\1\2\7" "\0\0\0\0");
     check_answer(send(101, 8, "\1\1", 2), 0, 0, 0, CRONDELITH_NOBODY, 0);
     check_answer(send(101, 9, "\1\1", 2), 0, 0, 0, CRONDELITH_NOBODY, 0);
     check_map(0x300);
@@ -212,7 +248,9 @@ static void check_allowance(void) {
     check_answer(send(110, 8, longest, sizeof longest), 0, 0, 65534, 9, 0);
     CHECK(relay[0] == 12 && memcmp(relay + 1, longest + 1, sizeof longest - 1) == 0);
     check_level("\0\0\0\0\0\1\377\344" "\0\0\0\0\0\0\0\156");
+    check_noted("\0\0\0\0\0\0\0\156" "\10\1\13\0" "\0\2\0\34");
     check_refused(send(110, 9, longest, sizeof longest), 9);
+    check_noted("\0\0\0\0\0\0\0\156" "\11\1\13\11" "\0\2\0\34");
     check_refused(send(110, 9, longest, 65507), 9);
     check_answer(send(110, 9, longest, 65506), 0, 0, 65506, 8, 0);
     check_level("\0\0\0\0\0\0\0\0" "\0\0\0\0\0\0\0\156");
@@ -230,6 +268,7 @@ static void check_allowance(void) {
 /* Connection 8 ends the session, both meet again, which costs 140, and 9 closes in session, then 8. */
 static void check_leave(void) {
     check_answer(send(113, 8, "\11", 1), 0, 0, 1, 9, 0);
+    check_noted("\0\0\0\0\0\0\0\161" "\10\1\11\0" "\0\0\0\0");
     CHECK(relay[0] == 10);
     check_level("\0\0\0\0\0\0\377\344" "\0\0\0\0\0\0\0\161");
     check_establish(113);
@@ -238,6 +277,7 @@ static void check_leave(void) {
     relay[0] = 0;
     expected_map = 0x100;
     check_answer(crondelith_close(TABLES, 114, 9, relay, CRONDELITH_BUFFER), 0, 0, 1, 8, 0);
+    check_noted("\0\0\0\0\0\0\0\162" "\11\2\0\0" "\0\0\0\0");
     CHECK(relay[0] == 10);
     check_map(0x100);
     expected_map = 0;
@@ -338,6 +378,7 @@ static void check_dead(void) {
     check_quiet(9029, 11);
     check_clock("\0\0\0\0\0\0\43\105");
     check_asked(9030, 11);
+    check_noted("\0\0\0\0\0\0\43\106" "\13\3\0\0" "\0\0\0\0");
     check_clock("\0\0\0\0\0\0\43\106");
     check_record(11, "\2\377\1\0" "\0\0\0\43\106" "\0\0\0\43\106" "\0\0");
     check_answer(send(9031, 12, "\6\0\0\0\1", 5), 0, 54, 49, 11, 0);
@@ -382,6 +423,76 @@ static void check_awaiting(void) {
     check_answer(find_out(9240, 13), 0, 0, 0, CRONDELITH_NOBODY, 1);
     check_record(13, "\0\377\0\0" "\0\0\0\0\0" "\0\0\0\0\0" "\0\0");
     check_map(0x1000);
+}
+
+/* Both replays of these bytes must say this; the plain one's allowances are the second. */
+static uint8_t replayed[CRONDELITH_ALLOWANCES], replayed_plain[CRONDELITH_ALLOWANCES];
+
+static void check_replays(const void *bytes, size_t length, uint64_t start, uint64_t term, uint32_t contradicted, uint64_t place) {
+    crondelith_replayed said = crondelith_replay(replayed, sizeof replayed, bytes, length, start, term);
+    CHECK(said.number == 0 && said.contradicted == contradicted && said.place == place);
+    said = crondelith_replay_plain(replayed_plain, sizeof replayed_plain, bytes, length, start, term);
+    CHECK(said.number == 0 && said.contradicted == contradicted && said.place == place);
+}
+
+/* The journal of all this, from its start at 100 on, gives the allowances as they are. Partner 1 was last charged at 9150, for an open;
+ * the clock is at 9240, when it has all again. */
+static void check_journal(void) {
+    check_replays(journal, journal_length, 100, 3600, 0, 0);
+    CHECK(memcmp(replayed, allowances, sizeof allowances) == 0);
+    CHECK(memcmp(replayed + 16, "\0\0\0\0\0\3\377\323" "\0\0\0\0\0\0\43\276", 16) == 0);
+    CHECK(memcmp(replayed_plain + 16, "\0\0\0\0\0\4\0\0" "\0\0\0\0\0\0\44\30", 16) == 0);
+    CHECK(memcmp(replayed_plain + TERM, allowances + TERM, 16) == 0);
+    check_replays(journal, journal_length - 1, 100, 3600, 1, journal_length - RECORD);
+    check_replays(journal, journal_length, 101, 3600, 1, 0);
+    CHECK(memcmp(replayed, allowances, sizeof allowances) == 0);
+}
+
+/* At 10 connection 0's partner spends all, 262,144; at 13 it has 196,608 again, and at 11 65,536. */
+#define SPENT_AT_10 "\0\0\0\0\0\0\0\12" "\0\1\13\0" "\0\4\0\0"
+#define AT_11 "\0\0\0\0\0\0\0\13" "\0\1\13"
+#define AT_13 "\0\0\0\0\0\0\0\15" "\0\1\13"
+
+static void check_examples(void) {
+    static const char opened[] = "\0\0\0\0\0\0\0\144" "\5\0\0\0" "\0\0\0\55"; /* and a 0 behind it */
+    check_fresh(0, 600);
+    check_replays(NULL, 0, 100, 0, 0, 0);
+    CHECK(memcmp(replayed, allowances, sizeof allowances) == 0 && memcmp(replayed_plain, allowances, sizeof allowances) == 0);
+    check_replays(NO_RECORD, 16, 100, 0, 1, 0);
+    check_replays(NO_RECORD, 16, 0, 0, 0, 0);
+    check_open(100, 5);
+    check_noted(opened);
+    check_replays(opened, 16, 100, 0, 0, 0);
+    CHECK(memcmp(replayed, allowances, sizeof allowances) == 0);
+    check_replays(opened, 17, 100, 0, 1, 16);
+    check_replays(NO_RECORD "\0\0\0", 19, 100, 0, 1, 0);
+    check_replays(SPENT_AT_10 AT_13 "\0\0\3\0\0", 32, 10, 0, 0, 0);
+    check_replays(SPENT_AT_10 AT_13 "\0\0\3\0\1", 32, 10, 0, 1, 16);
+    check_replays(SPENT_AT_10 AT_13 "\11\0\3\0\1", 32, 10, 0, 0, 0);
+    check_replays(SPENT_AT_10 AT_13 "\11\0\3\0\0", 32, 10, 0, 1, 16);
+    check_replays(SPENT_AT_10 AT_13 "\4\0\0\0\0" AT_11 "\0\0\1\0\0", 48, 10, 0, 0, 0);
+    check_replays(SPENT_AT_10 AT_13 "\4\0\0\0\0" AT_11 "\0\0\1\0\1", 48, 10, 0, 1, 32);
+    check_replays("\0\0\0\0\0\0\0\144" "\0\2\0\11" "\0\0\0\0", 16, 100, 0, 1, 0);
+}
+
+/* In the order 1, 2, 6, before the journal is looked at, and nothing is written. */
+static void check_replay_refused(size_t length, uint64_t start, uint64_t term, uint32_t number) {
+    static uint8_t table[CRONDELITH_ALLOWANCES + 1];
+    memset(table, 200, sizeof table);
+    crondelith_replayed said = crondelith_replay(table, length, (const uint8_t *)NO_RECORD, 3, start, term);
+    CHECK(said.number == number && said.contradicted == 0 && said.place == 0);
+    said = crondelith_replay_plain(table, length, (const uint8_t *)NO_RECORD, 3, start, term);
+    CHECK(said.number == number && said.contradicted == 0 && said.place == 0);
+    for (size_t place = 0; place < sizeof table; place++) CHECK(table[place] == 200);
+}
+
+static void check_replay_refusals(void) {
+    static const uint64_t too_late = UINT64_C(1) << 40;
+    check_replay_refused(CRONDELITH_ALLOWANCES - 1, too_late, 599, 1);
+    check_replay_refused(CRONDELITH_ALLOWANCES + 1, 100, 0, 1);
+    check_replay_refused(CRONDELITH_ALLOWANCES, too_late, 599, 2);
+    check_replay_refused(CRONDELITH_ALLOWANCES, too_late - 1, 599, 6);
+    check_replay_refused(CRONDELITH_ALLOWANCES, 100, 86401, 6);
 }
 
 static void check_partner(uint64_t in_map, uint64_t partner, uint32_t number, uint32_t count, uint32_t lowest) {
@@ -472,10 +583,13 @@ int main(void) {
     check_alive();
     check_awaiting();
     CHECK(number_at(allowances + TERM) == 3600);
+    check_journal();
     check_partners();
     check_rebuilding();
     check_numbers();
     check_disagreeing();
+    check_examples();
+    check_replay_refusals();
     printf("crondelith_check: %d failed\n", failures);
     return failures != 0;
 }

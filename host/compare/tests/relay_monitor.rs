@@ -5,7 +5,7 @@ use compare::relay::calls::Calls;
 use compare::relay::monitor::{assert_retries, Entry, Fault, Monitor};
 use compare::relay::runs::{decoded, follow, Followed};
 use compare::{amount, forms};
-use engine::relay::{Answer, NOBODY};
+use engine::relay::{Answer, NOBODY, RECORD};
 use model::{partner_of, Relay, StoredTerm, LEVEL_LIMIT};
 
 /// Runs of the proved relay and of others, and the calls of each.
@@ -150,7 +150,7 @@ fn wrong_relays_are_noticed() {
 fn send(now: u64, length: usize, number: u32) -> Entry {
     let (relay, destination) = if number == 0 { (length as u32, 17) } else { (0, NOBODY) };
     let price = Some(32 + 2 * length as u64);
-    let answer = Answer { number, reply: 0, relay, destination, disconnect: 0, map: 0 };
+    let answer = Answer { number, reply: 0, relay, destination, disconnect: 0, map: 0, record: [0; RECORD] };
     Entry { now, partner: Some(2), charged: true, price, message: vec![11; length], answer }
 }
 

@@ -3,7 +3,7 @@
 use compare::relay::agree;
 use compare::relay::boundary::{Boundary, Call, Kind, Lent, Second};
 use compare::relay::spoiled::SPOILED_BYTES;
-use engine::relay::Answer;
+use engine::relay::{Answer, RECORD};
 use model::{Relay, State, StoredTerm, Tables};
 
 /// Answers as the second implementation does, and then spoils something.
@@ -15,7 +15,7 @@ struct Spoiled {
 
 const UNSPOILED: Spoiled = Spoiled { answer: |_| {}, lent: |_| {} };
 
-const SPOILED_ANSWERS: [fn(&mut Answer); 7] = [
+const SPOILED_ANSWERS: [fn(&mut Answer); 9] = [
     |answer| answer.number ^= 9,
     |answer| answer.reply ^= 1,
     |answer| answer.relay ^= 1,
@@ -23,6 +23,8 @@ const SPOILED_ANSWERS: [fn(&mut Answer); 7] = [
     |answer| answer.disconnect ^= 1,
     |answer| answer.map ^= 1,
     |answer| answer.map ^= 1 << 63,
+    |answer| answer.record[0] ^= 1,
+    |answer| answer.record[RECORD - 1] ^= 1,
 ];
 
 impl Boundary for Spoiled {

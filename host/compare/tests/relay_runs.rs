@@ -67,7 +67,7 @@ fn compare_run(calls: &mut Calls, reached: &mut Reached) -> Result<(), Failure> 
     let mut map_monitor = MapMonitor::default();
     let mut last_holders = LastHolders::default();
     let (mut tables, mut map) = (run.first_tables(calls, started.lent.tables()), started.answer.map);
-    let mut pending = Pending::default();
+    let (mut pending, mut journal) = (Pending::default(), run.journal());
     for _ in 0..CALLS_OF_EACH {
         let relay = decoded(&tables);
         let call = run.next(calls, &relay, &mut pending);
@@ -80,6 +80,7 @@ fn compare_run(calls: &mut Calls, reached: &mut Reached) -> Result<(), Failure> 
         connection_monitor.record(&call, &outcome.answer)?;
         term_monitor.record(&call, &outcome)?;
         map_monitor.record(&call, &outcome)?;
+        journal.note(&outcome.answer);
         (tables, map) = (outcome.lent.tables(), outcome.answer.map);
         let relay = decoded(&tables);
         last_holders.note(&relay);
@@ -89,7 +90,8 @@ fn compare_run(calls: &mut Calls, reached: &mut Reached) -> Result<(), Failure> 
         monitor.check_levels(&relay)?;
         pending.note(calls, call, &outcome.answer);
     }
-    run.compare_end(&Proved, &tables, map)?;
+    run.compare_end(&Proved, &tables, map, &journal)?;
+    journal.check_bound()?;
     map_monitor.check_end(&Proved, &tables.connections)?;
     Ok(())
 }

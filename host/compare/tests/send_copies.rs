@@ -9,6 +9,7 @@ use codec::{Message, DATA_LIMIT};
 use compare::tally::Tally;
 use engine::relay::{self, Answer, Tables, BUFFER, NOBODY, RANDOM};
 use engine::svsc::{self, Written};
+use model::{Entry, BASE_COST};
 
 /// Places are told by what is left when an address is divided by this.
 const STEP: usize = 16;
@@ -159,15 +160,16 @@ impl Session {
 }
 
 /// What a send of so many bytes is answered with, given a relay buffer of this length.
-fn expected_answer(length: usize, room: usize) -> Answer {
-    let nothing = Answer { number: 0, reply: 0, relay: 0, destination: NOBODY, disconnect: 0, map: MAP };
-    if room < BUFFER.max(1 + length) {
-        Answer { number: 5, ..nothing }
+fn expected_answer(now: u64, length: usize, room: usize) -> Answer {
+    let (number, relay, destination, charge) = if room < BUFFER.max(1 + length) {
+        (5, 0, NOBODY, 0)
     } else if length > DATA_LIMIT {
-        Answer { number: 6, ..nothing }
+        (6, 0, NOBODY, 0)
     } else {
-        Answer { relay: 1 + length as u32, destination: HOLDER as u32, ..nothing }
-    }
+        (0, 1 + length as u32, HOLDER as u32, BASE_COST as u32 + 2 * (1 + length as u32))
+    };
+    let entry = Entry { time: now, connection: CALLER as u8, call: 1, kind: SEND, answer: number as u8, charge };
+    Answer { number, reply: 0, relay, destination, disconnect: 0, map: MAP, record: entry.bytes() }
 }
 
 /// Sends data of this length with each room and at each offset.
@@ -186,7 +188,7 @@ fn send(session: &mut Session, length: usize, rooms: &[(&'static str, usize)], r
             let answer = session.message(CALLER, message, buffer);
             reached.count(name, answer.number, message, buffer);
             let what = || format!("{length} bytes from offset {from_offset} to {to_offset}, room for {room}");
-            assert_eq!(answer, expected_answer(length, room), "{}", what());
+            assert_eq!(answer, expected_answer(session.now, length, room), "{}", what());
             let written = if answer.number == 0 { &received[..] } else { &[] };
             to.assert_holds(to_offset, written, what);
             from.assert_holds(from_offset, &sent, what);

@@ -4,6 +4,7 @@
 use codec::{encode, Message};
 
 use crate::checks::{check, check_fresh, Action, Call, Kind, Passed, Refusal};
+use crate::journal::{Entry, EntryBytes, NO_ENTRY};
 use crate::keepalives::Due;
 use crate::maps::{Map, FRESH_MAP};
 use crate::records::{Connection, Session, State};
@@ -25,13 +26,15 @@ pub struct Answer {
     pub disconnect: bool,
     /// The map of the connections afterwards.
     pub map: u64,
+    /// The call's record in the journal.
+    pub record: EntryBytes,
 }
 
 impl Answer {
-    /// The numbers in the order above, the map apart, as include/crondelith.h has them.
-    pub fn numbers(self) -> ([u32; 5], u64) {
-        let Self { number, reply, relay, destination, disconnect, map } = self;
-        ([number, reply as u32, relay as u32, destination as u32, disconnect.into()], map)
+    /// The numbers in the order above, the map and the record apart, as include/crondelith.h has them.
+    pub fn numbers(self) -> ([u32; 5], u64, EntryBytes) {
+        let Self { number, reply, relay, destination, disconnect, map, record } = self;
+        ([number, reply as u32, relay as u32, destination as u32, disconnect.into()], map, record)
     }
 }
 
@@ -69,7 +72,7 @@ pub fn fresh(tables: &mut Tables, mut map: u64, now: u64, term: u64) -> Answer {
         map = FRESH_MAP;
         Sent::default()
     });
-    deliver(done, map, &mut [], &mut [])
+    deliver((done, NO_ENTRY), map, &mut [], &mut [])
 }
 
 /// Opens a connection.
@@ -114,17 +117,29 @@ pub fn keepalive(
     deliver(attempt(tables, &mut map, Call { now, connection, kind }), map, reply, relay)
 }
 
-/// Makes a call on a copy of the relay, which becomes the relay if the call is accepted; then the map follows.
-fn attempt(tables: &mut Tables, map: &mut u64, call: Call) -> Result<Sent, Refusal> {
-    let (before, passed) = check(tables, &call)?;
-    let (after, sent) = before.plan(&passed).carry_out(&passed)?;
-    *map = Map::decode(*map).after_call(&before, &after).encode();
-    *tables = after.encode();
-    Ok(sent)
+/// Makes a call on a copy of the relay, which becomes the relay if the call is accepted; then the map follows. Refused or
+/// not, the call has a record.
+fn attempt(tables: &mut Tables, map: &mut u64, call: Call) -> (Result<Sent, Refusal>, EntryBytes) {
+    let mut charge = 0;
+    let done = check(tables, &call).and_then(|(before, passed)| {
+        let plan = before.plan(&passed);
+        charge = plan.price.unwrap_or(0);
+        let (after, sent) = plan.carry_out(&passed)?;
+        *map = Map::decode(*map).after_call(&before, &after).encode();
+        *tables = after.encode();
+        Ok(sent)
+    });
+    let record = Entry::of(&call, done.as_ref().err().copied(), charge);
+    (done, record)
 }
 
 /// "each tray starts with its message, and its further bytes stay"; "Refusals 1 to 9 report 0, 0, 255, no".
-fn deliver(done: Result<Sent, Refusal>, map: u64, reply: &mut [u8], relay: &mut [u8]) -> Answer {
+fn deliver(
+    (done, record): (Result<Sent, Refusal>, EntryBytes),
+    map: u64,
+    reply: &mut [u8],
+    relay: &mut [u8],
+) -> Answer {
     let (number, sent) = match done {
         Ok(sent) => (0, sent),
         Err(refusal) => (refusal as u32, Sent::default()),
@@ -132,7 +147,8 @@ fn deliver(done: Result<Sent, Refusal>, map: u64, reply: &mut [u8], relay: &mut 
     let (destination, relayed) = sent.relay.unwrap_or((NOBODY.into(), Vec::new()));
     reply[..sent.reply.len()].copy_from_slice(&sent.reply);
     relay[..relayed.len()].copy_from_slice(&relayed);
-    Answer { number, reply: sent.reply.len(), relay: relayed.len(), destination, disconnect: sent.disconnect, map }
+    let (reply, relay, disconnect) = (sent.reply.len(), relayed.len(), sent.disconnect);
+    Answer { number, reply, relay, destination, disconnect, map, record }
 }
 
 impl Relay {

@@ -81,6 +81,11 @@ pub(crate) fn check<'a>(tables: &Tables, call: &Call<'a>) -> Result<(Relay, Pass
 /// answered with 6, after checks 1 and 2". Gives the term to store.
 pub(crate) fn check_fresh(tables: &Tables, now: u64, term: u64) -> Result<StoredTerm, Refusal> {
     Relay::decode(tables).ok_or(Refusal::TableSize)?;
+    check_start(now, term)
+}
+
+/// Those that are not of the tables.
+pub(crate) fn check_start(now: u64, term: u64) -> Result<StoredTerm, Refusal> {
     refuse_if(now >= TIME_LIMIT, Refusal::Time)?;
     StoredTerm::named(term).ok_or(Refusal::Invalid)
 }

@@ -14,6 +14,8 @@ pub(crate) struct Plan {
     /// The relay afterwards, but for the charge.
     after: Relay,
     sent: Sent,
+    /// Of a charged call what it costs if it is done.
+    pub price: Option<u64>,
     /// Of a charged call "level minus charge, negative by exactly the shortfall".
     pub headroom: Option<i64>,
 }
@@ -41,8 +43,8 @@ impl Relay {
         let sent = after.act(passed);
         let level = self.allowances[partner_of(passed.caller)].level_at(passed.now);
         let cost = BASE_COST + (passed.received + sent.length()) as u64;
-        let headroom = passed.action.is_charged().then_some(level as i64 - cost as i64);
-        Plan { after, sent, headroom }
+        let price = passed.action.is_charged().then_some(cost);
+        Plan { after, sent, price, headroom: price.map(|price| level as i64 - price as i64) }
     }
 }
 

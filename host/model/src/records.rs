@@ -13,7 +13,7 @@ pub trait Record: Sized {
 }
 
 /// Takes the next field of a record.
-fn take<const N: usize>(bytes: &mut &[u8]) -> [u8; N] {
+pub(crate) fn take<const N: usize>(bytes: &mut &[u8]) -> [u8; N] {
     let (field, rest) = bytes.split_first_chunk().expect("a whole record");
     *bytes = rest;
     *field

@@ -9,6 +9,8 @@ use crate::LEVEL_LIMIT;
 pub const PARTNERS: usize = 8;
 pub const CONNECTIONS: usize = 64;
 pub const LEASES: usize = 128;
+/// The bytes of the allowance table: each partner's, and one record beside.
+pub(crate) const ALLOWANCES: usize = PARTNERS * Allowance::LENGTH + Common::LENGTH;
 
 /// The scope's board: three tables of bytes, here of any lengths.
 #[derive(Clone, Debug, PartialEq, Eq)]
@@ -51,8 +53,7 @@ impl Relay {
     }
 
     pub fn encode(&self) -> Tables {
-        let mut allowances = encode_all(&self.allowances);
-        self.common.encode(&mut allowances);
+        let allowances = encode_allowances(&self.allowances, &self.common);
         Tables { connections: encode_all(&self.connections), leases: encode_all(&self.leases), allowances }
     }
 
@@ -102,6 +103,13 @@ fn rows(partner: usize) -> Range<usize> {
 
 pub(crate) fn decode_all<R: Record>(table: &[u8], records: usize) -> Option<Vec<R>> {
     (table.len() == records * R::LENGTH).then(|| table.chunks_exact(R::LENGTH).map(R::decode).collect())
+}
+
+/// The allowance table.
+pub(crate) fn encode_allowances(allowances: &[Allowance], common: &Common) -> Vec<u8> {
+    let mut table = encode_all(allowances);
+    common.encode(&mut table);
+    table
 }
 
 fn encode_all<R: Record>(records: &[R]) -> Vec<u8> {

@@ -1,6 +1,6 @@
 //! One call made of both relays, or one question about a map or a table.
 
-use engine::relay::{Answer, PartnerConnections, Rebuilt};
+use engine::relay::{Answer, PartnerConnections, Rebuilt, RECORD};
 use model::Tables;
 
 use super::boundary::{Boundary, Call, Kind, Lent, Second};
@@ -25,8 +25,8 @@ impl Outcome {
     }
 }
 
-/// Makes the call on copies of the tables, and compares the answer, with the map in it, and every byte that was lent. A
-/// refused call must also have changed none, and have given back the map.
+/// Makes the call on copies of the tables, and compares the answer, with the map and the record in it, and every byte that was
+/// lent. A refused call must also have changed none, and have given back the map.
 pub fn call(subject: &impl Boundary, tables: &Tables, map: u64, call: &Call) -> Result<Outcome, Difference> {
     let before = Lent::new(tables, map, call);
     let (mut ours, mut expected) = (before.clone(), before.clone());
@@ -38,6 +38,9 @@ pub fn call(subject: &impl Boundary, tables: &Tables, map: u64, call: &Call) -> 
     if answer.number != 0 {
         same_lent(described, &ours, &before)?;
         same(described, &answer.map, &map)?;
+    }
+    if matches!(answer.number, 1..=3) || matches!(call.kind, Kind::Fresh { .. }) {
+        same(described, &answer.record, &[0; RECORD])?;
     }
     Ok(Outcome { answer, lent: ours })
 }

@@ -1,6 +1,6 @@
 //! The relay's C boundary as a trait, and the two relays behind it.
 
-use engine::relay::{self, Answer, PartnerConnections, Rebuilt};
+use engine::relay::{self, Answer, PartnerConnections, Rebuilt, Replayed};
 use model::Tables;
 
 use crate::guarded::Guarded;
@@ -182,6 +182,22 @@ pub trait Boundary {
         let model::Rebuilt { number, map } = model::rebuild(connections);
         Rebuilt { number, map }
     }
+
+    /// The replay of a journal from a start at this time with this term, likewise.
+    fn replay(&self, allowances: &mut [u8], journal: &[u8], start: u64, term: u64) -> Replayed {
+        replayed(&model::replay(allowances, journal, start, term))
+    }
+
+    /// The plain one, likewise.
+    fn replay_plain(&self, allowances: &mut [u8], journal: &[u8], start: u64, term: u64) -> Replayed {
+        replayed(&model::replay_plain(allowances, journal, start, term))
+    }
+}
+
+/// What the second implementation says of a journal, as include/crondelith.h has it.
+pub fn replayed(verdict: &model::Replayed) -> Replayed {
+    let ([number, contradicted], place) = verdict.numbers();
+    Replayed { number, contradicted, place }
 }
 
 /// The proved relay: the archive.
@@ -214,6 +230,14 @@ impl Boundary for Proved {
 
     fn rebuild(&self, connections: &[u8]) -> Rebuilt {
         relay::rebuild(connections)
+    }
+
+    fn replay(&self, allowances: &mut [u8], journal: &[u8], start: u64, term: u64) -> Replayed {
+        relay::replay(allowances, journal, start, term)
+    }
+
+    fn replay_plain(&self, allowances: &mut [u8], journal: &[u8], start: u64, term: u64) -> Replayed {
+        relay::replay_plain(allowances, journal, start, term)
     }
 }
 

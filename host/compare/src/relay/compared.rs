@@ -45,14 +45,15 @@ fn run(subject: &impl Boundary, calls: &mut Calls) -> Result<(), Difference> {
     let (start, anything, found) = run.start(calls);
     let started = agree::call(subject, &anything, found, &start)?;
     let (mut tables, mut map) = (run.first_tables(calls, started.lent.tables()), started.answer.map);
-    let mut pending = Pending::default();
+    let (mut pending, mut journal) = (Pending::default(), run.journal());
     for _ in 0..CALLS_OF_EACH {
         let call = run.next(calls, &decoded(&tables), &mut pending);
         let outcome = agree::call(subject, &tables, run.handed(calls, map), &call)?;
+        journal.note(&outcome.answer);
         (tables, map) = (outcome.lent.tables(), outcome.answer.map);
         pending.note(calls, call, &outcome.answer);
     }
-    run.compare_end(subject, &tables, map)
+    run.compare_end(subject, &tables, map, &journal)
 }
 
 /// As many runs of the relay by itself, each followed by a monitor, until that finds a fault.

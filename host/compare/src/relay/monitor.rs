@@ -75,7 +75,7 @@ impl fmt::Debug for Fault {
 
 /// The history of a partner.
 #[derive(Default)]
-struct Partner {
+pub(super) struct Partner {
     /// Time and cost of each accepted charged call.
     charges: Vec<(u64, u64)>,
     /// The messages refused with 9 since the last of these, with the time of the first refusal.
@@ -105,6 +105,15 @@ impl Partner {
             (time, spent)
         });
         sums.filter(|&(time, spent)| spent > allowed(time, last)).last()
+    }
+
+    /// Notes an accepted charged call of the partner, which has this number.
+    pub fn spend(&mut self, number: usize, now: u64, cost: u64) -> Result<(), Fault> {
+        self.charges.push((now, cost));
+        match self.overspent() {
+            None => Ok(()),
+            Some((from, spent)) => Err(Fault(format!("partner {number} spent {spent} from {from} to {now}"))),
+        }
     }
 }
 
@@ -147,7 +156,8 @@ impl Monitor {
         match (entry.partner, entry.answer.number) {
             (Some(partner), 0) if entry.charged => {
                 self.note_retry(partner, entry);
-                self.spend(partner, entry.now, entry.cost())?;
+                self.partners[partner].refused.clear();
+                self.partners[partner].spend(partner, entry.now, entry.cost())?;
                 check_cost(entry)
             }
             (Some(partner), 9) => {
@@ -175,16 +185,6 @@ impl Monitor {
         if let Some(first) = self.partners[partner].refused.get(&entry.message) {
             let seconds = RETRY_AFTER.min(entry.now.saturating_sub(*first));
             self.retries.count(AGAIN[seconds as usize], entry.answer.number);
-        }
-    }
-
-    fn spend(&mut self, number: usize, now: u64, cost: u64) -> Result<(), Fault> {
-        let partner = &mut self.partners[number];
-        partner.charges.push((now, cost));
-        partner.refused.clear();
-        match partner.overspent() {
-            None => Ok(()),
-            Some((from, spent)) => Err(Fault(format!("partner {number} spent {spent} from {from} to {now}"))),
         }
     }
 

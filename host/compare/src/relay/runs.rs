@@ -1,6 +1,7 @@
 //! Runs: a fresh start, and then calls one after the other on the tables that it left, or on such as others would have left.
 
 use std::collections::HashSet;
+use std::ops::Range;
 
 use engine::relay::{Answer, ALLOWANCES, CONNECTIONS, LEASES};
 use model::{partner_of_row, Lease, Relay, StoredTerm, Tables, NOBODY, PARTNERS, TIME_LIMIT};
@@ -9,6 +10,7 @@ use super::agree::{self, Outcome};
 use super::boundary::{Boundary, Call, Kind, Lent};
 use super::calls::{connections_of, Calls, LONG_DATA, SHORT_DATA};
 use super::connection_monitor::ConnectionMonitor;
+use super::journals::{self, Journal};
 use super::map_monitor::MapMonitor;
 use super::monitor::{Entry, Fault, Monitor};
 use super::term_monitor::TermMonitor;
@@ -27,6 +29,9 @@ enum Clock {
     /// Stands mostly, and at times jumps, as far as to where a lease ends.
     Jumps,
 }
+
+/// Where the allowances have the term.
+const TERM: Range<usize> = ALLOWANCES - 16..ALLOWANCES - 8;
 
 /// For how long leases may still last that a run finds in its tables.
 const FOUND_FOR: [u64; 6] = [1, 60, 599, 3_600, 86_400, 100_000];
@@ -128,9 +133,21 @@ impl Run {
         }
     }
 
+    /// The journal of the run, in which there is nothing yet.
+    pub fn journal(&self) -> Journal {
+        Journal::new(self.start, self.term)
+    }
+
     /// Compares what both relays find after a run: in its map of each partner, and as the map of its tables, which it must be
-    /// if each call was handed the one that the call before gave back.
-    pub fn compare_end(&self, subject: &impl Boundary, tables: &Tables, map: u64) -> Result<(), Difference> {
+    /// if each call was handed the one that the call before gave back; and in its journal.
+    pub fn compare_end(
+        &self,
+        subject: &impl Boundary,
+        tables: &Tables,
+        map: u64,
+        journal: &Journal,
+    ) -> Result<(), Difference> {
+        self.compare_replays(subject, &tables.allowances, journal)?;
         let rebuilt = agree::rebuild(subject, &tables.connections)?.map;
         if !self.wrong_maps {
             same(|| format!("the map after a run to {tables:?}"), &map, &rebuilt)?;
@@ -139,6 +156,18 @@ impl Run {
             agree::connections_of(subject, rebuilt, partner)?;
             agree::connections_of(subject, map, partner).map(drop)
         })
+    }
+
+    /// Both replays of the journal must give the allowances that the run ended with.
+    fn compare_replays(&self, subject: &impl Boundary, allowances: &[u8], journal: &Journal) -> Result<(), Difference> {
+        let mut replayed = journals::replay(subject, journal, ALLOWANCES)?;
+        if self.found.is_some() {
+            // In the tables there was another number instead of the term.
+            replayed.allowances[TERM].copy_from_slice(&allowances[TERM]);
+        }
+        let described = || format!("the allowances after {journal:?}");
+        same(described, &replayed.verdict, &model::Replayed::Agrees)?;
+        same(described, &replayed.allowances.as_slice(), &allowances)
     }
 
     /// What the monitor of the term knows of how the run begins.
@@ -316,6 +345,20 @@ pub fn follow_maps(subject: &impl Boundary, calls: &mut Calls, length: usize) ->
     let run = Run::any(calls);
     let last = run.alone(subject, calls, length, |_, call, outcome| monitor.record(call, outcome))?;
     monitor.check_end(subject, &last.connections)
+}
+
+/// Makes a run of one relay by itself, whose journal must replay to its allowances, in both ways, and keep to demand 3's bound.
+pub fn follow_journals(subject: &impl Boundary, calls: &mut Calls, length: usize) -> Result<Journal, Fault> {
+    let run = Run::any(calls);
+    let mut journal = run.journal();
+    let last = run.alone(subject, calls, length, |_, _, outcome| {
+        journal.note(&outcome.answer);
+        Ok(())
+    })?;
+    let replayed = run.compare_replays(subject, &last.allowances, &journal);
+    replayed.map_err(|difference| Fault(format!("{difference:?}")))?;
+    journal.check_bound()?;
+    Ok(journal)
 }
 
 /// An id that two live rows have: no run may come to that.

@@ -2,6 +2,7 @@
 
 use compare::relay::boundary::{Kind, Lent};
 use compare::relay::noticed::edit;
+use compare::relay::records;
 use engine::relay::{Answer, NOBODY};
 use model::{partner_of, Connection, Due, Lease, Relay};
 
@@ -221,7 +222,8 @@ pub const WRONG_COSTS: [Overlooked<Spoil>; 8] = [
     ("that it is free for who has spent all", true, |made, answer, before, lent| {
         if made.due.is_some() && made.before.allowances[partner_of(made.caller)].level_at(made.now()) < KEEPALIVE_PRICE
         {
-            (*answer, *lent) = (Answer::from(([9, 0, 0, NOBODY, 0], before.map)), before.clone());
+            let record = records::of(&made.call, 9, KEEPALIVE_PRICE);
+            (*answer, *lent) = (Answer::from(([9, 0, 0, NOBODY, 0], before.map, record)), before.clone());
         }
     }),
     ("that no refill is stored", true, |made, _, _, lent| {

@@ -2,6 +2,7 @@
 
 use compare::relay::boundary::{Boundary, Call, Kind, Lent, Second};
 use compare::relay::noticed::edit;
+use compare::relay::records;
 use engine::relay::{Answer, NOBODY};
 use model::{Connection, Due, Relay, State};
 
@@ -145,11 +146,12 @@ impl Finding {
 
 /// Does what is due, on what was lent as it was before.
 fn do_due(due: Due, made: &Made, lent: &mut Lent) -> Answer {
-    let nothing = Answer::from(([0, 0, 0, NOBODY, 0], lent.map));
+    let record = records::of(&made.call, 0, 0);
+    let nothing = Answer::from(([0, 0, 0, NOBODY, 0], lent.map, record));
     if due == Due::Close {
         let connection = made.caller as u64;
         let kind = Kind::Close { connection, relay: lent.relay.lend().len() };
-        return Answer { disconnect: 1, ..Second.call(&Call { now: made.now(), kind }, lent) };
+        return Answer { disconnect: 1, record, ..Second.call(&Call { now: made.now(), kind }, lent) };
     }
     edit(lent, |relay| relay.set_clock(made.now()));
     if due == Due::Nothing {

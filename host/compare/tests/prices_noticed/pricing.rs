@@ -2,6 +2,7 @@
 
 use compare::relay::boundary::{Boundary, Call, Kind, Lent, Second};
 use compare::relay::prices::{cost, row_of, Row};
+use compare::relay::records;
 use engine::relay::{Answer, NOBODY};
 use model::{partner_of, Allowance, Relay, LEVEL_LIMIT};
 
@@ -146,7 +147,10 @@ impl Pricing {
     fn charge(&self, made: &Made, before: &Lent, lent: &mut Lent) -> Answer {
         let left = match (self.price)(made) {
             Some(price) if (self.refuses)(made, price) => {
-                let (mut answer, mut after) = (Answer::from(([9, 0, 0, NOBODY, 0], before.map)), made.before.clone());
+                // The right one: what is overlooked must show elsewhere.
+                let record = records::of(&made.call, 9, made.price());
+                let mut answer = Answer::from(([9, 0, 0, NOBODY, 0], before.map, record));
+                let mut after = made.before.clone();
                 (self.refused)(made, &mut answer, &mut after);
                 *lent = before.clone();
                 lent.set_tables(&after.encode());

@@ -1,15 +1,21 @@
 //! "Find dead connections": the request's examples, and each of its sentences.
 
 use model::{close, keepalive, open, reasons};
-use model::{Answer, Relay, State, StoredTerm, Tables, CONNECTIONS, LEVEL_LIMIT, NOBODY, TIME_LIMIT};
+use model::{Answer, Entry, Relay, State, StoredTerm, Tables, CONNECTIONS, LEVEL_LIMIT, NOBODY, TIME_LIMIT};
 
 use crate::support::{establish_with_id_1, relay, relay_in_session, relay_with, send, set_allowance, Sent};
 
 const RECORD: usize = 64;
 const LAST_TIME: u64 = TIME_LIMIT - 1;
 const NO_CONNECTION: u64 = CONNECTIONS as u64;
-const NOTHING: Answer =
-    Answer { number: 0, reply: 0, relay: 0, destination: NOBODY as usize, disconnect: false, map: 0 };
+const CLOSE: u8 = 2;
+const KEEPALIVE: u8 = 3;
+
+/// Done, and nothing is sent.
+fn nothing(now: u64, connection: u64, call: u8) -> Answer {
+    let record = Entry { time: now, connection: connection as u8, call, kind: 0, answer: 0, charge: 0 }.bytes();
+    Answer { number: 0, reply: 0, relay: 0, destination: NOBODY.into(), disconnect: false, map: 0, record }
+}
 
 /// The call for a connection, with what it sends.
 fn find_out(tables: &mut Tables, now: u64, connection: u64) -> Sent {
@@ -26,7 +32,7 @@ fn find_out(tables: &mut Tables, now: u64, connection: u64) -> Sent {
 fn assert_quiet(tables: &mut Tables, now: u64, connection: u64) {
     let mut expected = decoded(tables);
     expected.set_clock(now);
-    assert_eq!(find_out(tables, now, connection).answer, NOTHING);
+    assert_eq!(find_out(tables, now, connection).answer, nothing(now, connection, KEEPALIVE));
     assert_eq!(*tables, expected.encode());
 }
 
@@ -37,7 +43,7 @@ fn assert_asked(tables: &mut Tables, now: u64, connection: u64) {
     let record = &mut expected.connections[connection as usize];
     (record.unanswered, record.sent, record.asked) = (1, now, now);
     let sent = find_out(tables, now, connection);
-    assert_eq!(sent.answer, Answer { reply: 1, ..NOTHING });
+    assert_eq!(sent.answer, Answer { reply: 1, ..nothing(now, connection, KEEPALIVE) });
     assert_eq!(sent.reply, [13]);
     assert_eq!(*tables, expected.encode());
 }
@@ -45,8 +51,9 @@ fn assert_asked(tables: &mut Tables, now: u64, connection: u64) {
 /// The connection, in no session, is closed.
 fn assert_closed(tables: &mut Tables, now: u64, connection: u64) {
     let mut expected = tables.clone();
-    assert_eq!(close(&mut expected, 0, now, connection, &mut [0; 64]), NOTHING);
-    assert_eq!(find_out(tables, now, connection).answer, Answer { disconnect: true, ..NOTHING });
+    assert_eq!(close(&mut expected, 0, now, connection, &mut [0; 64]), nothing(now, connection, CLOSE));
+    let closed = Answer { disconnect: true, ..nothing(now, connection, KEEPALIVE) };
+    assert_eq!(find_out(tables, now, connection).answer, closed);
     assert_eq!(*tables, expected);
 }
 
@@ -131,9 +138,10 @@ fn the_other_of_a_session_is_told() {
     assert_asked(&mut tables, 1_030, 1);
     assert_quiet(&mut tables, 1_089, 1);
     let mut expected = tables.clone();
-    assert_eq!(close(&mut expected, 0, 1_090, 1, &mut [0; 64]), Answer { relay: 1, destination: 0, ..NOTHING });
+    let told = |call| Answer { relay: 1, destination: 0, ..nothing(1_090, 1, call) };
+    assert_eq!(close(&mut expected, 0, 1_090, 1, &mut [0; 64]), told(CLOSE));
     let sent = find_out(&mut tables, 1_090, 1);
-    assert_eq!(sent.answer, Answer { relay: 1, destination: 0, disconnect: true, ..NOTHING });
+    assert_eq!(sent.answer, Answer { disconnect: true, ..told(KEEPALIVE) });
     assert_eq!(sent.relay, [10]);
     assert_eq!(tables, expected);
     let relay = decoded(&tables);
@@ -156,7 +164,8 @@ fn a_later_message_to_it_does_not_prolong_its_time() {
 fn an_answer_at_1_040() {
     let mut tables = relay_with(1_000, &[0]);
     assert_asked(&mut tables, 1_030, 0);
-    assert_eq!(send(&mut tables, 1_040, 0, &[13]).answer, NOTHING);
+    let sent = send(&mut tables, 1_040, 0, &[13]).answer;
+    assert_eq!(sent, Answer { record: sent.record, ..nothing(1_040, 0, KEEPALIVE) });
     assert_eq!(record(&tables, 0), bytes(0, AT_1_030, AT_1_030));
     assert_quiet(&mut tables, 1_059, 0);
     assert_asked(&mut tables, 1_060, 0);

@@ -1,5 +1,6 @@
 //! The second relay, on the papers' examples.
 
+mod journals;
 mod keepalives;
 mod maps;
 mod prices;

@@ -41,7 +41,7 @@ const STORED: [(u64, u64); 14] = [
 ];
 
 const REFUSAL: Answer =
-    Answer { number: 6, reply: 0, relay: 0, destination: NOBODY as usize, disconnect: false, map: 0 };
+    Answer { number: 6, reply: 0, relay: 0, destination: NOBODY as usize, disconnect: false, map: 0, record: [0; 16] };
 
 /// The cookie that the random bytes here give a lease.
 const COOKIE: [u8; 24] = [9; 24];

@@ -26,7 +26,9 @@ fn case_3_has_cookie_2() {
 #[test]
 fn case_4_type_11_alone_in_session() {
     let sent = send(&mut relay_in_session(100), 100, 0, &[11]);
-    assert_eq!(sent.answer, Answer { number: 0, reply: 0, relay: 1, destination: 1, disconnect: false, map: 0 });
+    let record = [0, 0, 0, 0, 0, 0, 0, 100, 0, 1, 11, 0, 0, 0, 0, 34];
+    let relayed = Answer { number: 0, reply: 0, relay: 1, destination: 1, disconnect: false, map: 0, record };
+    assert_eq!(sent.answer, relayed);
     assert_eq!(sent.relay, [12]);
 }
 
@@ -83,7 +85,9 @@ fn case_10_the_opening_reply() {
     let mut reply = [200; 64];
     let answer = open(&mut relay(100), 0, 100, 63, &mut reply);
     let nobody = usize::from(NOBODY);
-    assert_eq!(answer, Answer { number: 0, reply: 13, relay: 0, destination: nobody, disconnect: false, map: 1 << 63 });
+    let (map, record) = (1 << 63, [0, 0, 0, 0, 0, 0, 0, 100, 63, 0, 0, 0, 0, 0, 0, 45]);
+    let opened = Answer { number: 0, reply: 13, relay: 0, destination: nobody, disconnect: false, map, record };
+    assert_eq!(answer, opened);
     assert_eq!(reply[..14], [0, 83, 86, 83, 67, 32, 48, 48, 49, 46, 48, 48, 48, 200]);
 }
 
