@@ -2,7 +2,7 @@
 //! section 3.1 of the ScreenView paper.
 //!
 //! One thread does all of it (`event_loop`): bytes come in, whole messages are offered to the engine, and what it sends goes
-//! out. A thread each for the log and the state file keep a slow terminal or disk from holding it up.
+//! out. A thread each for the log, the state file and the journal keep a slow terminal or disk from holding it up.
 
 mod buffer_pool;
 pub mod calls;
@@ -10,7 +10,10 @@ mod clock;
 mod connection;
 mod descriptors;
 mod event_loop;
+mod files;
 mod input;
+pub mod journal;
+mod kept;
 mod lease_term;
 mod limits;
 mod log;

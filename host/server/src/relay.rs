@@ -1,10 +1,13 @@
 //! The engine's tables, the map of the connections and the clock.
 
+use std::ops::RangeInclusive;
+
 use engine::reasons::{self, Reason};
 use engine::relay::{self, Answer, PartnerConnections};
 
 use crate::calls::{relay_length, REPLY_LENGTH};
 use crate::clock::Clock;
+use crate::journal::{Journal, Start, Syncer};
 use crate::lease_term::{KeptTerm, LeaseTerm};
 use crate::refusal::Refusal;
 use crate::{CONNECTIONS_EACH, PARTNERS};
@@ -21,6 +24,9 @@ const LEASE_LENGTH: usize = 40;
 /// The most that a partner has, and what it gets each second.
 const CAPACITY: u64 = 262_144;
 const REFILL: u64 = 65_536;
+
+/// A call answered with one of these has no record in the journal.
+const UNRECORDED: RangeInclusive<u32> = 1..=3;
 
 /// The three tables as bytes, as they are kept from one run to the next.
 #[derive(Clone, PartialEq, Eq)]
@@ -76,6 +82,15 @@ impl Tables {
         self.view().leases.chunks_exact(LEASE_LENGTH).map(number_at_start)
     }
 
+    /// These, with the allowances after the calls of a journal: its clock is theirs. Else the byte at which the journal
+    /// contradicts the rules.
+    pub(crate) fn with_allowances_of(&self, journal: &[u8], start: Start) -> Result<Self, u64> {
+        let mut replayed = self.clone();
+        let answer = relay::replay(replayed.lend().allowances, journal, start.time, start.term.seconds());
+        let is_replayed = answer.number == 0 && answer.contradicted == 0;
+        is_replayed.then_some(replayed).ok_or(answer.place)
+    }
+
     /// Whether they are others than these, also if the clock were the same.
     pub fn differ_beside_clock(&self, other: &Self) -> bool {
         let beside_clock = ..Self::SIZE - NUMBER_LENGTH;
@@ -112,28 +127,55 @@ pub struct Relay {
     map: u64,
     clock: Box<dyn Clock>,
     latest: u64,
+    journal: Option<Journal>,
 }
 
 impl Relay {
     /// A fresh relay. A clock out of the engine's range is refused.
     pub fn fresh(clock: Box<dyn Clock>, term: LeaseTerm) -> Result<Self, Refusal> {
-        let mut relay = Self { tables: Tables([0; Tables::SIZE]), map: 0, clock, latest: 0 };
+        let mut relay = Self { tables: Tables([0; Tables::SIZE]), map: 0, clock, latest: 0, journal: None };
         let now = relay.now();
         let answer = relay::fresh(relay.tables.lend(), relay.map, now, term.seconds());
-        relay.accepted(answer)?;
+        relay.finish_call(answer)?;
         Ok(relay)
     }
 
-    /// A relay that goes on with the tables of an earlier run, whose connections are gone.
-    pub fn restored(mut clock: Box<dyn Clock>, tables: Tables) -> Result<Self, Refusal> {
+    /// A relay that goes on with the tables of an earlier run, whose connections are gone, and with its journal.
+    pub fn restored(mut clock: Box<dyn Clock>, tables: Tables, journal: Option<Journal>) -> Result<Self, Refusal> {
         clock.start_from(tables.clock());
         // The size is the type's, so there is no other answer than a map.
         let map = relay::rebuild(tables.view().connections).map;
-        let mut relay = Self { latest: tables.clock(), tables, map, clock };
+        let mut relay = Self { latest: tables.clock(), tables, map, clock, journal };
         for connection in (0..PARTNERS * CONNECTIONS_EACH).filter(|connection| map >> connection & 1 == 1) {
             relay.close(connection, &mut [0; relay::BUFFER])?;
         }
         Ok(relay)
+    }
+
+    /// Has a journal from here on. The fresh relay's own start has no record in it.
+    pub fn keep_journal(&mut self, journal: Journal) {
+        self.journal = Some(journal);
+    }
+
+    /// Hands over the records of the calls so far, to be written.
+    pub fn hand_over_records(&mut self) {
+        self.journal.iter_mut().for_each(Journal::hand_over);
+    }
+
+    /// What brings those that are handed over to the disk, if there is a journal.
+    pub fn journal_syncer(&self) -> Option<Syncer> {
+        self.journal.as_ref().map(Journal::syncer)
+    }
+
+    /// The tables, to be saved. The records of their calls are handed over before, so that a sync reaches them.
+    pub fn tables_to_save(&mut self) -> &Tables {
+        self.hand_over_records();
+        &self.tables
+    }
+
+    /// Ends the journal, with all on the disk.
+    pub fn finish_journal(&mut self) {
+        self.journal.take().into_iter().for_each(Journal::finish);
     }
 
     pub fn tables(&self) -> &Tables {
@@ -152,7 +194,7 @@ impl Relay {
     pub fn open(&mut self, connection: usize, reply: &mut [u8]) -> Result<Answer, Refusal> {
         let now = self.now();
         let answer = relay::open(self.tables.lend(), self.map, now, connection as u64, reply);
-        self.accepted(answer)
+        self.finish_call(answer)
     }
 
     pub fn message(
@@ -166,20 +208,20 @@ impl Relay {
         let now = self.now();
         let (tables, connection) = (self.tables.lend(), connection as u64);
         let answer = relay::message(tables, self.map, now, connection, message, random, reply, relay);
-        self.accepted(answer)
+        self.finish_call(answer)
     }
 
     pub fn close(&mut self, connection: usize, relay: &mut [u8]) -> Result<Answer, Refusal> {
         let now = self.now();
         let answer = relay::close(self.tables.lend(), self.map, now, connection as u64, relay);
-        self.accepted(answer)
+        self.finish_call(answer)
     }
 
     /// Finds out whether a connection's peer still answers.
     pub fn keepalive(&mut self, connection: usize, reply: &mut [u8], relay: &mut [u8]) -> Result<Answer, Refusal> {
         let now = self.now();
         let answer = relay::keepalive(self.tables.lend(), self.map, now, connection as u64, reply, relay);
-        self.accepted(answer)
+        self.finish_call(answer)
     }
 
     /// Why an open was refused: this is about its reading, the latest.
@@ -201,8 +243,12 @@ impl Relay {
         self.latest
     }
 
-    /// Keeps the map of an answer, if the call was accepted: a refused one's is that of before.
-    fn accepted(&mut self, answer: Answer) -> Result<Answer, Refusal> {
+    /// Adds the call's record to the journal, and keeps the map of an answer if the call was accepted: a refused one's is
+    /// that of before.
+    fn finish_call(&mut self, answer: Answer) -> Result<Answer, Refusal> {
+        if let Some(journal) = self.journal.as_mut().filter(|_| !UNRECORDED.contains(&answer.number)) {
+            journal.append(&answer.record);
+        }
         match answer.number {
             0 => {
                 self.map = answer.map;
@@ -215,12 +261,16 @@ impl Relay {
 
 #[cfg(test)]
 mod tests {
+    use std::fs;
+    use std::sync::Arc;
+
     use codec::Message;
     use engine::relay::{PartnerConnections, NOBODY};
     use engine::{reasons, relay};
 
-    use super::{Relay, Tables, RECORD_LENGTH, REPLY_LENGTH};
-    use crate::{JumpingClock, KeptTerm, LeaseTerm, CLOCK_LIMIT, CONNECTIONS_EACH, PARTNERS};
+    use super::{Relay, Start, Tables, RECORD_LENGTH, REPLY_LENGTH};
+    use crate::journal::JournalFile;
+    use crate::{JumpingClock, KeptTerm, LeaseTerm, Log, LogFormat, CLOCK_LIMIT, CONNECTIONS_EACH, PARTNERS};
 
     /// Of all partners.
     const CONNECTIONS: usize = PARTNERS * CONNECTIONS_EACH;
@@ -361,12 +411,31 @@ mod tests {
     }
 
     #[test]
+    fn tables_are_saved_after_the_records_of_their_calls() {
+        let folder = tempfile::tempdir().expect("a folder");
+        let path = folder.path().join("journal");
+        let mut relay = Relay::fresh(Box::<JumpingClock>::default(), LeaseTerm::USUAL).expect("a relay");
+        let start = Start::new(relay.tables().clock(), LeaseTerm::USUAL);
+        let file = JournalFile::take(&path, Arc::new(Log::new(LogFormat::Text, |_| ())));
+        relay.keep_journal(file.and_then(|file| file.begin(start)).expect("a journal"));
+        let syncer = relay.journal_syncer().expect("a journal");
+        for number in 0..3 {
+            relay.open(number, &mut [0; REPLY_LENGTH]).expect("it is closed");
+            let tables = relay.tables_to_save().clone();
+            syncer.sync();
+            let written = fs::read(&path).expect("a journal");
+            assert_eq!(written.len(), (number + 1) * relay::RECORD);
+            assert!(tables.with_allowances_of(&written, start) == Ok(tables), "it replays to the tables");
+        }
+    }
+
+    #[test]
     fn a_restored_relay_has_all_numbers_free() {
         let mut relay = Relay::fresh(Box::<JumpingClock>::default(), LeaseTerm::USUAL).expect("a relay");
         for number in (0..CONNECTIONS).filter(|number| number % 3 == 0 || *number < CONNECTIONS_EACH) {
             relay.open(number, &mut [0; REPLY_LENGTH]).expect("it is closed");
         }
-        let restored = Relay::restored(Box::<JumpingClock>::default(), relay.tables().clone()).expect("a relay");
+        let restored = Relay::restored(Box::<JumpingClock>::default(), relay.tables().clone(), None).expect("a relay");
         assert!(open_numbers(&restored).is_empty());
         assert_map_agrees(&restored);
     }
@@ -376,7 +445,7 @@ mod tests {
     fn a_state_that_is_none_takes_no_number() {
         let mut tables = fresh(LeaseTerm::USUAL);
         tables.0[0] = 3;
-        let mut restored = Relay::restored(Box::<JumpingClock>::default(), tables).expect("a relay");
+        let mut restored = Relay::restored(Box::<JumpingClock>::default(), tables, None).expect("a relay");
         assert_eq!(restored.connections_of(0), PartnerConnections { number: 0, connections: 0, lowest: 0 });
         restored.open(0, &mut [0; REPLY_LENGTH]).expect("it is closed");
         assert_map_agrees(&restored);

@@ -6,6 +6,7 @@ use std::sync::mpsc::{self, Receiver, Sender};
 use std::sync::Arc;
 use std::thread::{self, JoinHandle};
 
+use crate::journal::Syncer;
 use crate::log::{Event, Log, Place};
 use crate::relay::Tables;
 use crate::state_file::StateFile;
@@ -20,16 +21,19 @@ pub struct Saver {
 }
 
 impl Saver {
-    /// Saves the tables as they are now, and starts the thread for later.
-    pub fn start(file: StateFile, tables: &Tables, log: Arc<Log>) -> io::Result<Self> {
-        file.save(tables).map_err(|error| {
+    /// Saves the tables as they are now, and starts the thread for later. Records of their calls are handed over to the
+    /// journal, if there is one, before they come here.
+    pub fn start(file: StateFile, tables: &Tables, journal: Option<Syncer>, log: Arc<Log>) -> io::Result<Self> {
+        save(&file, tables, journal.as_ref()).map_err(|error| {
             io::Error::other(format!("the state file '{}' can't be written: {error}", file.path().display()))
         })?;
         let (sender, receiver) = mpsc::channel();
         let failed = Arc::new(AtomicBool::new(false));
         let thread = {
             let failed = Arc::clone(&failed);
-            thread::Builder::new().name("state".into()).spawn(move || run(&file, &receiver, &failed, &log))?
+            thread::Builder::new()
+                .name("state".into())
+                .spawn(move || run(&file, journal.as_ref(), &receiver, &failed, &log))?
         };
         Ok(Self { tables: sender, thread, last: tables.clone(), failed })
     }
@@ -53,15 +57,21 @@ impl Saver {
 }
 
 /// Saves what is handed over: the latest, if the disk is slower than the relay.
-fn run(file: &StateFile, tables: &Receiver<Tables>, failed: &AtomicBool, log: &Log) {
+fn run(file: &StateFile, journal: Option<&Syncer>, tables: &Receiver<Tables>, failed: &AtomicBool, log: &Log) {
     while let Ok(mut latest) = tables.recv() {
         while let Ok(later) = tables.try_recv() {
             latest = later;
         }
-        if let Err(error) = file.save(&latest) {
+        if let Err(error) = save(file, &latest, journal) {
             failed.store(true, Ordering::Relaxed);
             let event = Event { kind: "not saved", place: Place::Relay };
             log.record(event, None, format_args!("the state isn't saved in '{}': {error}", file.path().display()));
         }
     }
+}
+
+/// Saves tables. The journal's records are on the disk before: so its allowances are never older than the state's.
+fn save(file: &StateFile, tables: &Tables, journal: Option<&Syncer>) -> io::Result<()> {
+    journal.into_iter().for_each(Syncer::sync);
+    file.save(tables)
 }

@@ -12,13 +12,12 @@ use mio::{Poll, Waker};
 
 use crate::clock::Clock;
 use crate::event_loop::{EventLoop, Parts, WAKER};
+use crate::kept::Kept;
 use crate::lease_term::{LeaseTerm, TermNote};
 use crate::limits::Limits;
 use crate::log::{Event, Log, Place, Said};
 use crate::port::Listeners;
 use crate::relay::Relay;
-use crate::saver::Saver;
-use crate::state_file::StateFile;
 use crate::statistics::Statistics;
 use crate::PARTNERS;
 
@@ -33,13 +32,15 @@ pub struct Settings {
     pub limits: Limits,
     /// Where the tables are kept from one run to the next.
     pub state: Option<PathBuf>,
+    /// Where the calls' records are written to.
+    pub journal: Option<PathBuf>,
     /// How long leases last, if it is a fresh relay: tables that were kept have a term of their own. None is the usual one.
     pub lease_term: Option<LeaseTerm>,
 }
 
 impl Settings {
     pub fn new(clock: impl Clock + 'static, log: Log) -> Self {
-        Self { clock: Box::new(clock), log, limits: Limits::default(), state: None, lease_term: None }
+        Self { clock: Box::new(clock), log, limits: Limits::default(), state: None, journal: None, lease_term: None }
     }
 }
 
@@ -79,9 +80,10 @@ impl Stopper {
 impl Server {
     /// Starts a relay on the listeners: a fresh one, or one that goes on with the state that was saved.
     pub fn start(listeners: Listeners, settings: Settings) -> io::Result<Self> {
-        let Settings { clock, log, limits, state, lease_term } = settings;
+        let Settings { clock, log, limits, state, journal, lease_term } = settings;
         let log = Arc::new(log);
-        let (relay, saver) = begin(clock, state, lease_term, &log)?;
+        let kept = Kept::open(state.as_deref(), journal.as_deref(), &log)?;
+        let (relay, saver) = kept.begin(clock, lease_term, &log)?;
         note_term(&relay, lease_term, &log);
         let poll = Poll::new()?;
         let (sender, commands) = mpsc::channel();
@@ -130,24 +132,6 @@ impl Server {
         }
         outcome
     }
-}
-
-fn begin(
-    clock: Box<dyn Clock>,
-    state: Option<PathBuf>,
-    lease_term: Option<LeaseTerm>,
-    log: &Arc<Log>,
-) -> io::Result<(Relay, Option<Saver>)> {
-    let refused = |refusal| io::Error::other(format!("no relay: {refusal}"));
-    let fresh = |clock| Relay::fresh(clock, lease_term.unwrap_or(LeaseTerm::USUAL));
-    let Some(path) = state else { return Ok((fresh(clock).map_err(refused)?, None)) };
-    let (file, saved) = StateFile::open(&path)?;
-    let relay = match saved {
-        Some(tables) => Relay::restored(clock, tables).map_err(refused)?,
-        None => fresh(clock).map_err(refused)?,
-    };
-    let saver = Saver::start(file, relay.tables(), Arc::clone(log))?;
-    Ok((relay, Some(saver)))
 }
 
 /// Says how long leases last, which a state file may have decided.

@@ -1,12 +1,11 @@
 //! The tables in a file, from one run of the relay to the next.
 
-use std::ffi::OsString;
-use std::fs::{self, File, OpenOptions};
-use std::io::{self, Write};
-use std::os::unix::fs::OpenOptionsExt;
+use std::fs::{self, File};
+use std::io;
 use std::path::{Path, PathBuf};
 
 use crate::clock::CLOCK_LIMIT;
+use crate::files::{beside, lock, replace, SyncFn};
 use crate::relay::Tables;
 
 /// The tables hold keys and cookies, which are nobody else's business.
@@ -24,7 +23,7 @@ impl StateFile {
     pub fn open(path: &Path) -> io::Result<(Self, Option<Tables>)> {
         let named = |error| named(path, error);
         let path = resolve(path).map_err(named)?;
-        let lock = lock(&beside(&path, ".lock")).map_err(named)?;
+        let lock = lock(&beside(&path, ".lock"), MODE).map_err(named)?;
         let tables = match read(&path) {
             Err(error) if error.kind() == io::ErrorKind::NotFound => None,
             other => Some(other.map_err(named)?),
@@ -33,21 +32,17 @@ impl StateFile {
     }
 
     pub fn save(&self, tables: &Tables) -> io::Result<()> {
-        self.save_and(tables, File::sync_all)
+        self.save_and(tables, &File::sync_all)
     }
 
     /// Saves the tables, with this as the way to bring a file or a folder to the disk.
-    fn save_and(&self, tables: &Tables, sync: impl Fn(&File) -> io::Result<()>) -> io::Result<()> {
-        let new = beside(&self.path, ".new");
-        // A killed relay may have left one.
-        let _ = fs::remove_file(&new);
-        let written = write(&new, tables).and_then(|file| sync(&file));
-        let saved = written.and_then(|()| fs::rename(&new, &self.path));
-        if saved.is_err() {
-            let _ = fs::remove_file(&new);
-        }
-        saved?;
-        sync(&File::open(folder(&self.path))?)
+    fn save_and(&self, tables: &Tables, sync: SyncFn) -> io::Result<()> {
+        replace(&self.path, tables.as_bytes(), MODE, sync)
+    }
+
+    /// The names that it uses.
+    pub fn names(path: &Path) -> [PathBuf; 3] {
+        [path.to_owned(), beside(path, ".lock"), beside(path, ".new")]
     }
 
     pub fn path(&self) -> &Path {
@@ -98,31 +93,6 @@ fn read(path: &Path) -> io::Result<Tables> {
     Ok(tables)
 }
 
-fn write(path: &Path, tables: &Tables) -> io::Result<File> {
-    let mut file = OpenOptions::new().write(true).create_new(true).mode(MODE).open(path)?;
-    file.write_all(tables.as_bytes())?;
-    Ok(file)
-}
-
-fn lock(path: &Path) -> io::Result<File> {
-    let file = OpenOptions::new().write(true).create(true).truncate(false).mode(MODE).open(path)?;
-    match file.try_lock() {
-        Ok(()) => Ok(file),
-        Err(fs::TryLockError::WouldBlock) => Err(io::Error::other("another relay uses it")),
-        Err(fs::TryLockError::Error(error)) => Err(error),
-    }
-}
-
-fn beside(path: &Path, ending: &str) -> PathBuf {
-    let mut name = OsString::from(path);
-    name.push(ending);
-    name.into()
-}
-
-fn folder(path: &Path) -> &Path {
-    path.parent().filter(|folder| !folder.as_os_str().is_empty()).unwrap_or(Path::new("."))
-}
-
 #[cfg(test)]
 mod tests {
     use std::cell::RefCell;
@@ -151,7 +121,7 @@ mod tests {
             synced.borrow_mut().push((file.metadata()?.is_dir(), named));
             Ok(())
         };
-        file.save_and(&tables(2), sync).expect("saved");
+        file.save_and(&tables(2), &sync).expect("saved");
         assert_eq!(*synced.borrow(), [(false, false), (true, true)]);
     }
 
@@ -179,7 +149,7 @@ mod tests {
         let path = folder.path().join("state");
         let (file, _) = StateFile::open(&path).expect("a state file");
         file.save(&tables(1)).expect("saved");
-        file.save_and(&tables(2), |_| Err(io::ErrorKind::StorageFull.into())).expect_err("a full disk");
+        file.save_and(&tables(2), &|_: &fs::File| Err(io::ErrorKind::StorageFull.into())).expect_err("a full disk");
         assert!(fs::read(&path).expect("a file") == tables(1).as_bytes(), "other tables");
         assert!(!folder.path().join("state.new").exists());
     }

@@ -7,7 +7,7 @@ use crate::connection::{Connection, End, Hold, Phase};
 use crate::log::{Event, Place};
 use crate::sockets::SocketId;
 
-/// How often the state is saved and the clock compared with the machine's.
+/// How often the journal is written, the state saved and the clock compared with the machine's.
 const TICK: Duration = Duration::from_millis(500);
 /// Seconds by which the machine's time may differ from the relay's without a line in the log.
 const DRIFT: u64 = 2;
@@ -24,6 +24,7 @@ impl EventLoop {
         self.check_peers();
         if self.tick <= self.now {
             self.tick = self.now + TICK;
+            self.relay.hand_over_records();
             self.save_state();
             self.compare_clocks();
         }
@@ -96,7 +97,7 @@ impl EventLoop {
 
     fn save_state(&mut self) {
         if let Some(saver) = &mut self.saver {
-            saver.save(self.relay.tables());
+            saver.save(self.relay.tables_to_save());
         }
     }
 

@@ -79,7 +79,7 @@ pub struct EventLoop {
     earliest: Instant,
     /// When those who wait for allowance try again.
     retry: Option<Instant>,
-    /// When the state and the clock are looked at.
+    /// When the journal, the state and the clock are looked at.
     tick: Instant,
     /// When the engine is asked which peers are still there.
     next_check: Instant,

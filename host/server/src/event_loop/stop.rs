@@ -35,12 +35,13 @@ impl EventLoop {
         self.now >= deadline || self.sockets.iter().next().is_none()
     }
 
-    /// Saves the state, and writes to the log what each partner got.
+    /// Saves the state, ends the journal, and writes to the log what each partner got.
     pub(super) fn finish(&mut self) {
         self.sockets = Sockets::new();
         if let Some(saver) = self.saver.take() {
-            saver.finish(self.relay.tables());
+            saver.finish(self.relay.tables_to_save());
         }
+        self.relay.finish_journal();
         for (partner, got) in self.statistics().iter().enumerate() {
             if *got != Statistics::default() {
                 self.log.record(Event { kind: "summary", place: Place::Partner(partner) }, None, got);

@@ -5,6 +5,7 @@ mod clocks;
 mod costs;
 mod deadlines;
 mod floods;
+mod journal;
 mod keepalives;
 mod lease_terms;
 mod log_lines;

@@ -102,7 +102,7 @@ impl Relay {
         self.wait_until(|| self.server.statistics()[partner].done >= count, "the calls aren't done");
     }
 
-    fn wait_until(&self, condition: impl Fn() -> bool, otherwise: &str) {
+    pub fn wait_until(&self, condition: impl Fn() -> bool, otherwise: &str) {
         let end = Instant::now() + LIMIT;
         while !condition() {
             assert!(Instant::now() < end, "{otherwise}: {:#?}", self.lines.lock());
