@@ -1,12 +1,15 @@
-//! `crondelith`: a relay for remote support, a peer to try it with, what its answers mean, a demonstration and a benchmark.
+//! `crondelith`: a relay for remote support, a peer to try it with, what its answers mean, what its journal is worth, a
+//! demonstration and a benchmark.
 
 mod bench;
 mod demo;
 mod explain;
+mod journal;
 mod output;
 mod peer;
 mod serve;
 mod signals;
+mod words;
 
 use std::ffi::OsString;
 use std::process::ExitCode;
@@ -32,6 +35,7 @@ enum Command {
     Serve(serve::Arguments),
     Peer(peer::Arguments),
     Explain(explain::Arguments),
+    Journal(journal::Arguments),
     Demo(demo::Arguments),
     Bench(bench::Arguments),
     /// A process of the benchmark's own
@@ -58,6 +62,7 @@ fn main() -> ExitCode {
         Command::Serve(arguments) => serve::run(arguments),
         Command::Peer(arguments) => peer::run(arguments),
         Command::Explain(arguments) => explain::run(arguments),
+        Command::Journal(arguments) => journal::run(arguments),
         Command::Demo(arguments) => demo::run(arguments),
         Command::Bench(arguments) => bench::run(arguments),
         Command::BenchRelay { words } => bench::peers::run_child(&words),

@@ -5,7 +5,7 @@ pub mod leases;
 use std::hint::black_box;
 
 use codec::{Message, DATA_LIMIT};
-use engine::relay::{self, Answer, BUFFER, NOBODY, RANDOM};
+use engine::relay::{self, Answer, BUFFER, NOBODY, RANDOM, RECORD};
 use engine::RelayBuffer;
 use model::Tables;
 use server::LeaseTerm;
@@ -208,7 +208,7 @@ fn message(connection: u64, message: Message, expected: Answer) -> Option<Call> 
 
 /// Accepted, and nothing is sent.
 fn nothing() -> Answer {
-    Answer { number: 0, reply: 0, relay: 0, destination: NOBODY, disconnect: 0, map: 0 }
+    Answer { number: 0, reply: 0, relay: 0, destination: NOBODY, disconnect: 0, map: 0, record: [0; RECORD] }
 }
 
 /// A reply of so many bytes.

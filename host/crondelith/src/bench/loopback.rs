@@ -32,11 +32,11 @@ fn measure() -> io::Result<Row> {
     let (caller, holder) = session(server.addresses()[0]).map_err(io::Error::other)?;
     let (mut relayed, mut copied) = (Vec::new(), Vec::new());
     for _ in 0..ROUNDS {
-        relayed.push(round(caller.stream(), holder.stream(), &frame)?);
+        relayed.push(round(caller.stream(), holder.stream(), &frame, FRAMES)?);
         copied.push(plain_round(&frame)?);
     }
     server.stop()?;
-    let medians = Medians { engine: nanoseconds(relayed), other: nanoseconds(copied) };
+    let medians = Medians { engine: nanoseconds(relayed, FRAMES), other: nanoseconds(copied, FRAMES) };
     let rate = |nanoseconds: f64| frame.len() as f64 * 1e3 / nanoseconds;
     let (relay, plain) = (rate(medians.engine), rate(medians.other));
     let what = format!("largest frame over TCP, {relay:.0} MB/s, against a plain copy loop, {plain:.0} MB/s");
@@ -49,14 +49,14 @@ fn largest_frame() -> Option<Vec<u8>> {
     Some(frame)
 }
 
-/// The time in which the frames, sent to the one socket, come out of the other: as many bytes, whatever is between.
-fn round(mut from: &TcpStream, mut to: &TcpStream, frame: &[u8]) -> io::Result<Duration> {
+/// The time in which so many times these bytes, sent to the one socket, come out of the other: as many, whatever is between.
+pub fn round(mut from: &TcpStream, mut to: &TcpStream, bytes: &[u8], count: usize) -> io::Result<Duration> {
     let start = Instant::now();
     thread::scope(|scope| {
         let sender =
-            thread::Builder::new().spawn_scoped(scope, move || (0..FRAMES).try_for_each(|_| from.write_all(frame)))?;
-        let mut block = vec![0; frame.len()];
-        let received = (0..FRAMES).try_for_each(|_| to.read_exact(&mut block));
+            thread::Builder::new().spawn_scoped(scope, move || (0..count).try_for_each(|_| from.write_all(bytes)))?;
+        let mut block = vec![0; bytes.len()];
+        let received = (0..count).try_for_each(|_| to.read_exact(&mut block));
         if received.is_err() {
             // The sender may wait in a write.
             from.shutdown(Shutdown::Both)?;
@@ -71,7 +71,7 @@ fn plain_round(frame: &[u8]) -> io::Result<Duration> {
     let (from, input) = pair()?;
     let (output, to) = pair()?;
     let copying = thread::Builder::new().spawn(move || copy(&input, &output))?;
-    let time = round(&from, &to, frame);
+    let time = round(&from, &to, frame, FRAMES);
     // It ends the copying.
     from.shutdown(Shutdown::Both)?;
     copying.join().unwrap_or(Err(io::ErrorKind::Other.into()))?;
@@ -98,8 +98,8 @@ fn pair() -> io::Result<(TcpStream, TcpStream)> {
     Ok((near, far))
 }
 
-/// Nanoseconds for a frame, in the median round.
-fn nanoseconds(mut rounds: Vec<Duration>) -> f64 {
+/// Nanoseconds for one of so many messages, in the median round.
+pub fn nanoseconds(mut rounds: Vec<Duration>, messages: usize) -> f64 {
     rounds.sort_unstable();
-    rounds[ROUNDS / 2].as_secs_f64() * 1e9 / FRAMES as f64
+    rounds[rounds.len() / 2].as_secs_f64() * 1e9 / messages as f64
 }

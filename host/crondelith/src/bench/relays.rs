@@ -4,7 +4,7 @@ use engine::relay::{self, Answer, BUFFER, RANDOM};
 use engine::RelayBuffer;
 use model::Tables;
 
-/// A call by a connection, and the answer that it must get, but for the map.
+/// A call by a connection, and the answer that it must get, but for the map and the record.
 pub struct Call {
     pub connection: u64,
     pub kind: Kind,
@@ -12,9 +12,10 @@ pub struct Call {
 }
 
 impl Call {
-    /// Whether this is the answer. What becomes of the map is seen where it is kept, with the tables.
+    /// Whether this is the answer. What becomes of the map is seen where it is kept, with the tables, and the record has the
+    /// time.
     pub fn is_answered_by(&self, answer: Answer) -> bool {
-        Answer { map: self.expected.map, ..answer } == self.expected
+        Answer { map: self.expected.map, record: self.expected.record, ..answer } == self.expected
     }
 }
 

@@ -93,8 +93,13 @@ impl Call {
 
     /// The partner that the connection belongs to, if there is such a connection.
     pub fn partner(&self) -> Option<u64> {
-        (self.connection < CONNECTIONS).then_some(self.connection / CONNECTIONS_EACH as u64)
+        partner_of(self.connection)
     }
+}
+
+/// The partner that a connection belongs to, if there is such a connection.
+pub fn partner_of(connection: u64) -> Option<u64> {
+    (connection < CONNECTIONS).then_some(connection / CONNECTIONS_EACH as u64)
 }
 
 /// The first time from one to another of which this isn't so, by halving: it is so up to some time, and of the last it isn't.

@@ -1,16 +1,15 @@
 //! An explanation as a JSON object. Its names are for programs and stay as they are; one that doesn't apply is left out.
 
-use serde_json::{json, Map, Value};
+use serde_json::{json, Value};
 
 use super::call::Action;
 use super::explanation::{After, Decision, Explanation};
 use super::words;
+use crate::output::known;
 
 impl Explanation {
     pub fn to_json(&self) -> Value {
-        let fields = self.about_call().into_iter().chain(self.about_answer()).chain(self.about_allowance());
-        let known = fields.filter(|(_, value)| !value.is_null()).map(|(name, value)| (name.to_owned(), value));
-        Value::Object(known.collect::<Map<_, _>>())
+        known(self.about_call().into_iter().chain(self.about_answer()).chain(self.about_allowance()))
     }
 
     fn about_call(&self) -> [(&'static str, Value); 7] {

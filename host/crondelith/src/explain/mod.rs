@@ -23,6 +23,9 @@ use call::Call;
 use explanation::Explanation;
 use options::Options;
 
+pub use call::{partner_of, CONNECTIONS};
+pub use words::type_name;
+
 const ABOUT: &str = "\
 Tells what a relay would answer to a call, and why, from the state file that 'serve --state' keeps.
 Nothing is changed, neither the file nor a relay that uses it.";

@@ -1,7 +1,6 @@
 //! An explanation as lines for people.
 
 use std::fmt::{self, Display};
-use std::time::{Duration, UNIX_EPOCH};
 
 use peer::grouped;
 use server::Refusal;
@@ -9,9 +8,7 @@ use server::Refusal;
 use super::call::{Action, Call};
 use super::explanation::{After, Allowance, Decision, Explanation};
 use super::words;
-
-/// Seconds since 1970 at which years begin to have five digits.
-const YEAR_10000: u64 = 253_402_300_800;
+use crate::words::{connection, counted, date, units};
 
 impl Display for Explanation {
     fn fmt(&self, to: &mut fmt::Formatter) -> fmt::Result {
@@ -71,19 +68,13 @@ impl Explanation {
 
     fn payable(&self) -> String {
         let Some(time) = self.payable_at else { return "at no time that the relay's clock can have".into() };
-        let seconds = match time - self.call.time {
-            1 => "1 second".into(),
-            seconds => format!("{} seconds", grouped(seconds)),
-        };
+        let seconds = counted(time - self.call.time, "second");
         format!("in {seconds}, at {}, if the partner makes no charged call meanwhile", date(time))
     }
 }
 
 fn call(call: &Call) -> String {
-    let connection = match call.partner() {
-        Some(partner) => format!("connection {} of partner {partner}", call.connection),
-        None => format!("connection {}", call.connection),
-    };
+    let connection = connection(call.connection, call.partner());
     match &call.action {
         Action::Open { .. } => format!("open of {connection}"),
         Action::Close { .. } => format!("close of {connection}"),
@@ -93,10 +84,7 @@ fn call(call: &Call) -> String {
 }
 
 fn described(message: &[u8]) -> String {
-    let length = match message.len() {
-        1 => "1 byte".into(),
-        length => format!("{} bytes", grouped(length as u64)),
-    };
+    let length = counted(message.len() as u64, "byte");
     match message.first().map(|kind| (kind, words::type_name(*kind))) {
         Some((kind, Some(name))) => format!("{length}, type {kind} ({name})"),
         Some((kind, None)) => format!("{length}, type {kind}"),
@@ -110,19 +98,4 @@ fn allowance_left(Allowance { level, after, .. }: Allowance) -> String {
         After::Left(left) => format!("the partner has {level} and keeps {}", grouped(left)),
         After::Short(short) => format!("the partner has {level}, {} too few", grouped(short)),
     }
-}
-
-fn units(count: u64) -> String {
-    match count {
-        1 => "1 unit".into(),
-        count => format!("{} units", grouped(count)),
-    }
-}
-
-/// A time in seconds and, if it has one, as a date.
-fn date(time: u64) -> String {
-    if time >= YEAR_10000 {
-        return time.to_string();
-    }
-    format!("{time} ({})", humantime::format_rfc3339_seconds(UNIX_EPOCH + Duration::from_secs(time)))
 }

@@ -6,7 +6,7 @@ use std::net::TcpListener;
 use crate::support::{folder, run, text, PROGRAM};
 
 /// The words that lead to a command, and one of its help.
-const COMMANDS: [(&[&str], &str); 12] = [
+const COMMANDS: [(&[&str], &str); 14] = [
     (&[], "crondelith <COMMAND>"),
     (&["serve"], "crondelith serve [OPTIONS]"),
     (&["peer"], "crondelith peer [OPTIONS] <COMMAND>"),
@@ -17,6 +17,8 @@ const COMMANDS: [(&[&str], &str); 12] = [
     (&["explain", "message"], "crondelith explain <STATE> message [OPTIONS]"),
     (&["explain", "close"], "crondelith explain <STATE> close [OPTIONS]"),
     (&["explain", "keepalive"], "crondelith explain <STATE> keepalive [OPTIONS]"),
+    (&["journal"], "crondelith journal [OPTIONS] <FILE>"),
+    (&["journal", "show"], "crondelith journal show [OPTIONS] <FILE>"),
     (&["demo"], "crondelith demo"),
     (&["bench"], "crondelith bench [OPTIONS]"),
 ];
@@ -43,10 +45,11 @@ fn every_command_has_help() {
 
 #[test]
 fn the_help_shows_every_default() {
-    let defaults: [(&str, &[&str]); 3] = [
-        ("serve", &["127.0.0.1", "7700", "none", "600", "text"]),
+    let defaults: [(&str, &[&str]); 4] = [
+        ("serve", &["127.0.0.1", "7700", "none", "none", "600", "text"]),
         ("peer", &["127.0.0.1", "7700", "0", "never", "16384"]),
         ("explain", &["the file's clock", "80 fresh ones", "64", "the message's length, or 64 if that is more"]),
+        ("journal", &["as FILE.start says", "as FILE.start says, or 600"]),
     ];
     for (command, defaults) in defaults {
         let help = run(&["help", command]).stdout;
@@ -63,7 +66,7 @@ fn the_version_is_printed() {
 }
 
 /// Arguments, and the reason why they are wrong.
-const WRONG: [(&[&str], &str); 62] = [
+const WRONG: [(&[&str], &str); 72] = [
     (&[], "'crondelith' requires a subcommand"),
     (&["dance"], "'dance' wasn't recognized"),
     (&["help", "dance"], "'dance' wasn't recognized"),
@@ -133,6 +136,16 @@ const WRONG: [(&[&str], &str); 62] = [
     (&["explain", "state", "message", "--random", "0g"], "'g' isn't a hex digit"),
     (&["explain", "state", "--hex", "02", "message", "--file", "f"], "'--hex' and '--file' can't both be given"),
     (&["explain", "state", "message", "--hex", "0200"], "'--connection' has to be given"),
+    (&["journal"], "<FILE>"),
+    (&["journal", "show"], "<FILE>"),
+    (&["journal", "a", "b"], "'b' which wasn't expected"),
+    (&["journal", "a", "show", "b"], "either a FILE is judged, or 'show' shows one"),
+    (&["journal", "a", "--partner", "8"], "8 is not in 0..8"),
+    (&["journal", "a", "--start", "now"], "'now' for '--start <SECONDS>'"),
+    (&["journal", "a", "--lease-term", "x"], "'x' for '--lease-term <SECONDS>'"),
+    (&["journal", "show", "a", "--start", "1"], "'--start' isn't an option of 'show'"),
+    (&["journal", "--lease-term", "600", "show", "a"], "'--lease-term' isn't an option of 'show'"),
+    (&["journal", "show", "--plain", "a"], "'--plain' isn't an option of 'show'"),
 ];
 
 #[test]

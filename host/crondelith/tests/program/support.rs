@@ -82,6 +82,11 @@ impl Running {
         self.shell(&format!("prlimit --nofile={count}: --pid"));
     }
 
+    /// From now on its files may not become longer.
+    pub fn allow_file_size(&self, bytes: u64) {
+        self.shell(&format!("prlimit --fsize={bytes}: --pid"));
+    }
+
     /// Runs a command of the shell on the program's process.
     fn shell(&self, command: &str) {
         let done = Command::new("sh").args(["-c", &format!("{command} {}", self.child.id())]).status();
