@@ -68,10 +68,11 @@ fn no_relay(refusal: Refusal) -> io::Error {
     io::Error::other(format!("no relay: {refusal}"))
 }
 
-/// Neither may write what the other has.
+/// Neither may write what the other has, nor the state what an old journal is kept as.
 fn keep_apart(state: &Path, journal: &Path) -> io::Result<()> {
     let journal_names = JournalFile::names(journal).map(|name| absolute(&name));
-    match StateFile::names(state).iter().find(|name| journal_names.contains(&absolute(name))) {
+    let is_shared = |name: &PathBuf| journal_names.contains(name) || JournalFile::may_become(&absolute(journal), name);
+    match StateFile::names(state).iter().find(|name| is_shared(&absolute(name))) {
         Some(name) => {
             Err(io::Error::other(format!("'{}' is a file of both the state and the journal", name.display())))
         }
@@ -84,4 +85,47 @@ fn absolute(path: &Path) -> PathBuf {
     let in_folder = |folder: PathBuf| folder.join(path.file_name().unwrap_or_default());
     let known = path.canonicalize().or_else(|_| folder(path).canonicalize().map(in_folder));
     known.unwrap_or_else(|_| path.to_owned())
+}
+
+#[cfg(test)]
+mod tests {
+    use std::path::Path;
+
+    use super::keep_apart;
+
+    /// Whether a state and a journal may have these names in a folder, whatever way they are named.
+    fn are_apart(state: &str, journal: &str) -> bool {
+        let folder = tempfile::tempdir().expect("a folder");
+        let in_folder = folder.path().join(state);
+        let around = folder.path().join("..").join(folder.path().file_name().expect("a name")).join(journal);
+        let here = std::env::current_dir().expect("a folder").join(journal);
+        let apart = [
+            (&*in_folder, &*folder.path().join(journal)),
+            (&*in_folder, &*around),
+            (Path::new(state), Path::new(journal)),
+            (Path::new(state), &*Path::new(".").join(journal)),
+            (&*Path::new(".").join(state), Path::new(journal)),
+            (Path::new(state), &*here),
+        ]
+        .map(|(state, journal)| keep_apart(state, journal).is_ok());
+        assert!(apart.iter().all(|is| *is == apart[0]), "{state} and {journal}: {apart:?}");
+        apart[0]
+    }
+
+    #[test]
+    fn a_file_is_known_whatever_way_it_is_named() {
+        assert!(!are_apart("j", "j"));
+        assert!(are_apart("s", "j"));
+    }
+
+    /// A fresh relay would move a journal there, and save its state in its place.
+    #[test]
+    fn a_state_is_not_where_old_journals_are_kept() {
+        for state in ["j.1", "j.1.start", "j.20", "j.18446744073709551615"] {
+            assert!(!are_apart(state, "j"), "{state}");
+        }
+        for state in ["j.1x", "j.x.start", "j1", "k.1", "j.1.state", "j."] {
+            assert!(are_apart(state, "j"), "{state}");
+        }
+    }
 }

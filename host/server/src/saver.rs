@@ -18,6 +18,8 @@ pub struct Saver {
     last: Tables,
     /// It couldn't be saved.
     failed: Arc<AtomicBool>,
+    /// The journal, as long as it isn't known that it has ended.
+    journal: Option<Syncer>,
 }
 
 impl Saver {
@@ -30,18 +32,19 @@ impl Saver {
         let (sender, receiver) = mpsc::channel();
         let failed = Arc::new(AtomicBool::new(false));
         let thread = {
-            let failed = Arc::clone(&failed);
+            let (failed, journal) = (Arc::clone(&failed), journal.clone());
             thread::Builder::new()
                 .name("state".into())
                 .spawn(move || run(&file, journal.as_ref(), &receiver, &failed, &log))?
         };
-        Ok(Self { tables: sender, thread, last: tables.clone(), failed })
+        Ok(Self { tables: sender, thread, last: tables.clone(), failed, journal })
     }
 
     /// Hands the tables over, if they have changed or couldn't be saved. The clock by itself isn't worth it: it moves with
-    /// each second in which somebody is connected.
+    /// each second in which somebody is connected. But where a journal has ended it tells that later calls aren't in it.
     pub fn save(&mut self, tables: &Tables) {
-        if self.failed.swap(false, Ordering::Relaxed) || self.last.differ_beside_clock(tables) {
+        let ended = self.journal.take_if(|journal| journal.has_ended()).is_some();
+        if self.failed.swap(false, Ordering::Relaxed) || ended || self.last.differ_beside_clock(tables) {
             self.last = tables.clone();
             // It fails only if the thread has ended, which nothing ends.
             let _ = self.tables.send(tables.clone());

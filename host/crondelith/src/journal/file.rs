@@ -1,7 +1,7 @@
 //! A journal's bytes, from a file: whole, to be judged, or record by record, to be shown.
 
 use std::fs::File;
-use std::io::{self, BufReader, Read, Write};
+use std::io::{self, BufReader, Read, Take, Write};
 use std::os::unix::fs::FileTypeExt;
 use std::path::Path;
 
@@ -62,10 +62,17 @@ fn read_blocks(from: File, length: Option<u64>, mut progress: impl FnMut(u64)) -
     let mut bytes = Vec::new();
     bytes.try_reserve_exact(length.unwrap_or_default() as usize)?;
     let mut from = from.take(length.unwrap_or(LIMIT + 1));
-    while from.by_ref().take(BLOCK).read_to_end(&mut bytes)? > 0 {
+    while read_block(&mut from, &mut bytes)? > 0 {
         progress(bytes.len() as u64);
     }
     Ok(bytes)
+}
+
+/// Reads at most a block more. Room for it is asked for before, since reading would end the program where there is none.
+fn read_block(from: &mut Take<File>, bytes: &mut Vec<u8>) -> io::Result<usize> {
+    let length = from.limit().min(BLOCK);
+    bytes.try_reserve(length as usize)?;
+    from.by_ref().take(length).read_to_end(bytes)
 }
 
 /// What else a name can stand for may have no end.

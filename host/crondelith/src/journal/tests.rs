@@ -125,6 +125,20 @@ fn an_engine_that_contradicts_itself_judges_nothing() {
     }
 }
 
+/// The plain replay's table has every level at the latest time, and the usual one's each at that of its own last call.
+#[test]
+fn what_judges_plainly_is_the_plain_replay() {
+    let journal = [record(START, [0, 0, 0, 0], 45), record(START + 5, [8, 0, 0, 0], 45)].concat();
+    let updates = |plain| {
+        let judgement = Judgement::new(&journal, BEGINNING, plain).expect("a judgement");
+        let (allowances, _) = judgement.tables.view().allowances.as_chunks::<16>();
+        let updated = |record: &[u8; 16]| record.last_chunk().map(|bytes| u64::from_be_bytes(*bytes));
+        allowances[..PARTNERS].iter().filter_map(updated).collect::<Vec<_>>()
+    };
+    assert_eq!(updates(true), [START + 5; PARTNERS]);
+    assert_eq!(updates(false)[..3], [START, START + 5, START]);
+}
+
 #[test]
 fn every_record_has_words() {
     let told = |fields, charge| {

@@ -87,6 +87,11 @@ impl Running {
         self.shell(&format!("prlimit --fsize={bytes}: --pid"));
     }
 
+    /// From now on it may have so many bytes of memory.
+    pub fn allow_memory(&self, bytes: u64) {
+        self.shell(&format!("prlimit --as={bytes}: --pid"));
+    }
+
     /// Runs a command of the shell on the program's process.
     fn shell(&self, command: &str) {
         let done = Command::new("sh").args(["-c", &format!("{command} {}", self.child.id())]).status();

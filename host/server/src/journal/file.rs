@@ -1,6 +1,7 @@
 //! A journal's files at the start of a relay: a fresh one begins a journal, and keeps what was there; one that goes on with a
 //! saved state goes on with its journal.
 
+use std::ffi::OsStr;
 use std::fmt::Display;
 use std::fs::{self, File, OpenOptions};
 use std::io::{self, ErrorKind};
@@ -38,6 +39,11 @@ impl JournalFile {
     pub fn names(path: &Path) -> [PathBuf; 4] {
         let start = Start::path_for(path);
         [path.to_owned(), beside(path, ".lock"), beside(&start, ".new"), start]
+    }
+
+    /// Whether a name is one that an old journal, or its start, may get. Both paths are absolute.
+    pub fn may_become(journal: &Path, name: &Path) -> bool {
+        number_of(name.as_os_str(), journal.as_os_str()).is_some()
     }
 
     /// Begins a journal. One that is there is kept under a numbered name.
@@ -110,42 +116,47 @@ pub fn exists(path: &Path) -> io::Result<bool> {
 /// Gives a journal that is there, and its start, the next number. The start has its new name first: wherever a relay is
 /// killed, no journal is without one.
 fn keep_old(path: &Path) -> io::Result<Option<PathBuf>> {
-    let start = Start::path_for(path);
-    let has_start = exists(&start)?;
-    if has_start {
-        // Whatever else it may be isn't replaced.
-        Start::read(path)?;
-    }
+    let place = Start::path_for(path);
+    // Whatever else it may be isn't replaced.
+    let has_start = exists(&place).map_err(|error| Start::named(path, error))?;
+    let start = has_start.then(|| Start::read(path)).transpose()?;
     if !exists(path)? {
         return Ok(None);
     }
-    if !has_start {
-        let text = format!("it has no '{}', so it may be something else: move it away", start.display());
-        return Err(io::Error::other(text));
-    }
+    let none =
+        || io::Error::other(format!("it has no '{}', so it may be something else: move it away", place.display()));
+    let start = start.ok_or_else(none)?;
     let old = beside(path, &format!(".{}", next_number(path)?));
-    fs::copy(&start, Start::path_for(&old))?;
+    start.write(&old)?;
     fs::rename(path, &old)?;
+    // Before the start is replaced, which is the old one's.
+    sync_folder(path)?;
     Ok(Some(old))
 }
 
 /// One more than any that a journal of this name, or its start, has.
 fn next_number(path: &Path) -> io::Result<u64> {
-    let name = path.file_name().unwrap_or_default().as_bytes();
-    let number = |entry: io::Result<fs::DirEntry>| {
-        let entry = entry.ok()?.file_name();
-        let rest = entry.as_bytes().strip_prefix(name)?.strip_prefix(b".")?;
-        let digits = rest.strip_suffix(b".start").unwrap_or(rest);
-        std::str::from_utf8(digits).ok()?.parse::<u64>().ok()
-    };
+    let name = path.file_name().unwrap_or_default();
+    let number = |entry: io::Result<fs::DirEntry>| number_of(&entry.ok()?.file_name(), name);
     let greatest = fs::read_dir(folder(path))?.filter_map(number).max().unwrap_or(0);
     greatest.checked_add(1).ok_or_else(|| io::Error::other("no number is left for the one that is there"))
 }
 
+/// The number in the name of an old journal, or of its start.
+fn number_of(name: &OsStr, journal: &OsStr) -> Option<u64> {
+    let rest = name.as_bytes().strip_prefix(journal.as_bytes())?.strip_prefix(b".")?;
+    let digits = rest.strip_suffix(b".start").unwrap_or(rest);
+    std::str::from_utf8(digits).ok()?.parse().ok()
+}
+
 fn create(path: &Path) -> io::Result<File> {
     let file = OpenOptions::new().append(true).create_new(true).open(path)?;
-    File::open(folder(path))?.sync_all()?;
+    sync_folder(path)?;
     Ok(file)
+}
+
+fn sync_folder(path: &Path) -> io::Result<()> {
+    File::open(folder(path))?.sync_all()
 }
 
 /// Why a relay with a saved state doesn't start, and what can be done.

@@ -5,6 +5,7 @@
 
 mod file;
 mod found;
+mod shared;
 mod start;
 #[cfg(test)]
 mod tests;

@@ -5,6 +5,7 @@ use std::io::{self, ErrorKind};
 use std::path::{Path, PathBuf};
 use std::sync::mpsc::{self, Receiver, Sender};
 use std::sync::{Arc, Mutex};
+use std::thread;
 use std::time::{Duration, Instant};
 
 use engine::relay::RECORD;
@@ -164,9 +165,104 @@ fn a_disk_that_stands_still_stops_nobody_and_ends_the_journal_in_the_end() {
     assert!(lines.len() == 2 && lines[1].contains("with 1048576 records: its disk was too slow"), "{lines:?}");
 }
 
+#[test]
+fn only_what_waits_counts() {
+    let mut bench = Bench::new(usize::MAX, || Ok(()));
+    let syncer = bench.journal.syncer();
+    for _ in 0..3 {
+        bench.gate.send(()).expect("the disk is there");
+        bench.journal.writer.write(vec![7; LIMIT]);
+        syncer.sync();
+    }
+    drop(syncer);
+    let (bytes, lines, ended) = bench.finish();
+    assert!(bytes.len() == 3 * LIMIT && !ended, "{} bytes", bytes.len());
+    assert!(lines.is_empty(), "{lines:?}");
+}
+
+fn becomes_true(mut condition: impl FnMut() -> bool) -> bool {
+    let end = Instant::now() + Duration::from_secs(10);
+    while !condition() {
+        if Instant::now() > end {
+            return false;
+        }
+        thread::sleep(Duration::from_millis(2));
+    }
+    true
+}
+
+/// A relay that is killed meanwhile finds the mark, and the state that it would have without a journal.
+#[test]
+fn a_disk_that_stands_still_hides_no_end_and_holds_up_no_state() {
+    let mut bench = Bench::new(usize::MAX, || Ok(()));
+    let path = bench.folder.path().join("state");
+    let (file, _) = StateFile::open(&path).expect("a state file");
+    let saved = || Tables::load(&path).expect("a state");
+    let syncer = bench.journal.syncer();
+    let mut saver = Saver::start(file, &tables(1), Some(syncer), Arc::clone(&bench.log)).expect("a saver");
+    bench.journal.writer.write(vec![7; LIMIT]);
+    saver.save(&tables(2));
+    thread::sleep(Duration::from_millis(150));
+    assert!(saved() == tables(1) && !bench.has_ended(), "the journal isn't on the disk");
+    bench.journal.writer.write(vec![7; RECORD]);
+    assert!(becomes_true(|| bench.has_ended()), "the end isn't noted");
+    assert!(becomes_true(|| saved() == tables(2)), "the state isn't saved");
+    // The clock is saved, once: by it a restart sees that calls are missing.
+    saver.save(&at_clock(2, 8));
+    assert!(becomes_true(|| saved() == at_clock(2, 8)), "the clock isn't saved");
+    saver.save(&at_clock(2, 9));
+    thread::sleep(Duration::from_millis(20));
+    assert!(saved() == at_clock(2, 8), "the clock is saved again");
+    saver.save(&tables(3));
+    assert!(becomes_true(|| saved() == tables(3)), "the state isn't saved");
+    saver.finish(&tables(4));
+    assert!(saved() == tables(4));
+    // The thread notes nothing more, or else the start would be none.
+    let (bytes, lines, ended) = bench.finish();
+    assert!(bytes.len() == LIMIT && ended, "{} bytes", bytes.len());
+    assert!(lines.len() == 2 && lines[1].ends_with("records: its disk was too slow"), "{lines:?}");
+}
+
+#[test]
+fn an_end_that_cannot_be_noted_is_noted_later() {
+    for more_calls in [true, false] {
+        let mut bench = Bench::new(5, || Ok(()));
+        let path = Start::path_for(&bench.folder.path().join("journal"));
+        let moved = path.with_extension("moved");
+        fs::rename(&path, &moved).expect("a start");
+        let hand_over = |journal: &mut Journal| {
+            journal.append(&record(0));
+            journal.hand_over();
+            journal.syncer().sync();
+        };
+        bench.gate.send(()).expect("the disk is there");
+        hand_over(&mut bench.journal);
+        if more_calls {
+            hand_over(&mut bench.journal);
+        }
+        fs::rename(&moved, &path).expect("a start");
+        if more_calls {
+            let is_noted = becomes_true(|| {
+                hand_over(&mut bench.journal);
+                bench.has_ended()
+            });
+            assert!(is_noted, "the end isn't noted");
+        }
+        let (_, lines, ended) = bench.finish();
+        assert!(ended && lines.len() == 2, "{lines:?}");
+        let unnoted = "; this can't be noted beside it: ";
+        assert!(lines[0].contains("with 0 records") && lines[0].contains(unnoted), "{lines:?}");
+        assert!(lines[1].ends_with("journal' has ended, which is noted beside it now"), "{lines:?}");
+    }
+}
+
 fn tables(byte: u8) -> Tables {
+    at_clock(byte, 0)
+}
+
+fn at_clock(byte: u8, clock: u64) -> Tables {
     let mut bytes = vec![byte; Tables::SIZE];
-    bytes[Tables::SIZE - 8..].fill(0);
+    bytes[Tables::SIZE - 8..].copy_from_slice(&clock.to_be_bytes());
     Tables::from_bytes(&bytes).expect("tables")
 }
 
@@ -234,8 +330,11 @@ fn what_is_there_is_kept_under_the_next_number() {
     for other in ["j.9x", "j.", "k.9", "jj.9", "j.-9"] {
         fs::write(named(other), "").expect("a file");
     }
+    Start::note_end(&named("j")).expect("noted");
     begin(&named("j"), 4);
     assert_eq!(["j.2", "j.7", "j"].map(|name| begun(&named(name))), [2, 3, 4].map(of));
+    let ended = ["j.2", "j.7", "j"].map(|name| Start::read(&named(name)).expect("a start").ended);
+    assert_eq!(ended, [false, true, false]);
 }
 
 /// Wherever a relay is killed while it keeps what is there, each journal has a start.
@@ -264,6 +363,9 @@ fn what_may_be_something_else_is_left_alone() {
     assert!(refusal(&path).contains("its lines aren't"), "{}", refusal(&path));
     let left = [&path, &Start::path_for(&path)].map(|path| fs::read_to_string(path).expect("a file"));
     assert_eq!(left, ["a letter", "start of a letter"]);
+    fs::remove_file(Start::path_for(&path)).expect("a file");
+    fs::create_dir(Start::path_for(&path)).expect("a folder");
+    assert!(refusal(&path).ends_with("j.start': it isn't a plain file"), "{}", refusal(&path));
     let link = folder.path().join("link");
     std::os::unix::fs::symlink(&path, &link).expect("a link");
     for other in [folder.path(), &link, Path::new("/dev/full")] {

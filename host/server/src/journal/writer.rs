@@ -1,24 +1,28 @@
 //! The thread that writes a journal: a slow disk mustn't hold up the relay, and a full one mustn't stop it.
 
+use std::fmt::Display;
 use std::fs::File;
 use std::io::{self, Write};
 use std::path::PathBuf;
-use std::sync::atomic::{AtomicBool, AtomicUsize, Ordering};
-use std::sync::mpsc::{self, Receiver, Sender, SyncSender};
+use std::sync::mpsc::{self, Receiver, RecvTimeoutError, Sender, SyncSender};
 use std::sync::Arc;
 use std::thread::{self, JoinHandle};
+use std::time::Duration;
 
 use engine::relay::RECORD;
 
-use super::Start;
+use super::shared::Shared;
 use crate::log::{Event, Log, Place};
 
-/// Bytes that may wait for the disk: a million records, a minute of the most that all allowances pay for. A journal that
-/// would need more ends.
+/// Bytes that may wait for the disk: a million records. That is a minute of the most that all allowances pay for, and some 16
+/// seconds of messages that are refused for nothing. A journal that would need more ends.
 pub const LIMIT: usize = 1 << 24;
 
 /// Buffers that are kept for the next records.
 const SPARE: usize = 2;
+
+/// How soon who waits for a sync finds out that the journal has ended.
+const STEP: Duration = Duration::from_millis(100);
 
 /// What a journal's records are written to.
 pub trait Disk: Send {
@@ -51,15 +55,8 @@ enum Job {
     Sync(Sender<()>),
     /// What comes next isn't written, for want of room for what waits.
     End,
-}
-
-/// What both sides know.
-#[derive(Default)]
-struct Shared {
-    /// Bytes that are handed over and not written.
-    waiting: AtomicUsize,
-    /// Nothing more is taken.
-    ended: AtomicBool,
+    /// To be tried again: the end isn't noted yet.
+    NoteEnd,
 }
 
 /// Where the thread writes to, and where it tells of it.
@@ -76,33 +73,45 @@ pub struct Writer {
     jobs: Sender<Job>,
     shared: Arc<Shared>,
     thread: JoinHandle<()>,
+    /// Notes an end that the other thread would note too late.
+    noting: Option<JoinHandle<()>>,
     log: Arc<Log>,
     /// Buffers whose records are written.
     spare: Receiver<Vec<u8>>,
 }
 
 /// Brings to the disk what was handed over.
-pub struct Syncer(Sender<Job>);
+#[derive(Clone)]
+pub struct Syncer {
+    jobs: Sender<Job>,
+    shared: Arc<Shared>,
+}
 
 impl Syncer {
-    /// Waits until all that was handed over before is on the disk, or the journal has ended.
+    /// Waits until all that was handed over before is on the disk, or the journal has ended: what it still writes then may
+    /// take its disk long.
     pub fn sync(&self) {
         let (done, waits) = mpsc::channel();
-        if self.0.send(Job::Sync(done)).is_ok() {
-            // There is nothing to receive but the end.
-            let _ = waits.recv();
+        if self.has_ended() || self.jobs.send(Job::Sync(done)).is_err() {
+            return;
         }
+        // There is nothing to receive but the end.
+        while waits.recv_timeout(STEP) == Err(RecvTimeoutError::Timeout) && !self.has_ended() {}
+    }
+
+    pub fn has_ended(&self) -> bool {
+        self.shared.has_ended()
     }
 }
 
 impl Writer {
     pub fn start(target: Target<impl Disk + 'static>) -> io::Result<Self> {
         let (sender, jobs) = mpsc::channel();
-        let (shared, log) = (Arc::new(Shared::default()), Arc::clone(&target.log));
+        let (shared, log) = (Arc::new(Shared::new(target.path.clone())), Arc::clone(&target.log));
         let (written, spare) = mpsc::sync_channel(SPARE);
         let side = DiskSide { target, shared: Arc::clone(&shared), written, is_synced: true, has_ended: false };
         let thread = thread::Builder::new().name("journal".into()).spawn(move || side.run(jobs))?;
-        Ok(Self { jobs: sender, shared, thread, log, spare })
+        Ok(Self { jobs: sender, shared, thread, noting: None, log, spare })
     }
 
     /// An empty buffer that was used before.
@@ -111,11 +120,12 @@ impl Writer {
     }
 
     /// Hands records over. If the journal has ended they are dropped; and it ends with them if too many wait.
-    pub fn write(&self, mut records: Vec<u8>) {
-        if self.shared.ended.load(Ordering::Relaxed) {
+    pub fn write(&mut self, mut records: Vec<u8>) {
+        if self.shared.has_ended() {
+            self.note_again();
             return;
         }
-        let before = self.shared.waiting.fetch_add(records.len(), Ordering::Relaxed);
+        let before = self.shared.add_waiting(records.len());
         if before > 0 {
             // Else each of many small ones that wait would hold a whole buffer.
             records.shrink_to_fit();
@@ -125,20 +135,34 @@ impl Writer {
         let _ = self.jobs.send(job);
     }
 
-    /// The disk takes nothing, and the thread may not be able to tell of it for long.
-    fn give_up(&self) -> Job {
-        self.shared.ended.store(true, Ordering::Relaxed);
+    /// The disk takes nothing, and the thread may not be able to tell of it for long, nor to note it: a relay that is killed
+    /// before would go on with a journal that lacks calls.
+    fn give_up(&mut self) -> Job {
+        self.shared.end();
+        let shared = Arc::clone(&self.shared);
+        // Where this fails the journal's own thread notes it, or tells why it can't.
+        let note = move || drop(shared.note_end());
+        self.noting = thread::Builder::new().name("journal's end".into()).spawn(note).ok();
         let event = Event { kind: "journal slow", place: Place::Relay };
         self.log.record(event, None, format_args!("the journal ends with the {LIMIT} bytes that wait for its disk"));
         Job::End
     }
 
+    /// An end that couldn't be noted is to be noted as soon as it can be.
+    fn note_again(&self) {
+        if self.shared.take_unnoted() {
+            let _ = self.jobs.send(Job::NoteEnd);
+        }
+    }
+
     pub fn syncer(&self) -> Syncer {
-        Syncer(self.jobs.clone())
+        Syncer { jobs: self.jobs.clone(), shared: Arc::clone(&self.shared) }
     }
 
     /// Waits until all is written. Who could still ask for a sync must be gone.
     pub fn finish(self) {
+        // The other thread holds the lock: nothing may be noted once it is gone.
+        let _ = self.noting.map(JoinHandle::join);
         drop(self.jobs);
         let _ = self.thread.join();
     }
@@ -161,6 +185,9 @@ impl<D: Disk> DiskSide<D> {
             self.work(job);
         }
         self.sync();
+        if self.shared.take_unnoted() {
+            self.note_again();
+        }
     }
 
     fn work(&mut self, job: Job) {
@@ -168,7 +195,7 @@ impl<D: Disk> DiskSide<D> {
             Job::Write(mut records) => {
                 self.is_synced = false;
                 self.attempt(|disk| disk.append(&records));
-                self.shared.waiting.fetch_sub(records.len(), Ordering::Relaxed);
+                self.shared.remove_waiting(records.len());
                 records.clear();
                 // One too many is freed.
                 let _ = self.written.try_send(records);
@@ -178,6 +205,7 @@ impl<D: Disk> DiskSide<D> {
                 drop(done);
             }
             Job::End => self.attempt(|_| Err(io::Error::other("its disk was too slow"))),
+            Job::NoteEnd => self.note_again(),
         }
     }
 
@@ -197,19 +225,36 @@ impl<D: Disk> DiskSide<D> {
     /// Ends the journal, with a file that is one, and notes that calls are missing from here on.
     fn end(&mut self, why: &io::Error) {
         self.has_ended = true;
-        self.shared.ended.store(true, Ordering::Relaxed);
-        let Target { path, disk, log, .. } = &mut self.target;
-        let cut = disk.cut();
+        let cut = self.target.disk.cut();
         // It may be what has failed.
-        let _ = disk.sync();
-        let noted = Start::note_end(path);
-        let event = Event { kind: "journal ended", place: Place::Relay };
+        let _ = self.target.disk.sync();
+        let noted = self.note();
+        // Not before: a state with later calls is saved when the end is noted.
+        self.shared.end();
         let left = match cut {
             Ok(records) => format!("{records} records"),
             Err(error) => format!("records that can't be cut to whole ones ({error})"),
         };
         let unnoted = noted.err().map(|error| format!("; this can't be noted beside it: {error}")).unwrap_or_default();
-        let text = format_args!("the journal '{}' has ended, with {left}: {why}{unnoted}", path.display());
-        log.record(event, None, text);
+        self.tell("journal ended", format_args!("has ended, with {left}: {why}{unnoted}"));
+    }
+
+    /// Notes the end, which is to be tried again if it fails.
+    fn note(&self) -> io::Result<()> {
+        let noted = self.shared.note_end();
+        self.shared.set_unnoted(noted.is_err());
+        noted
+    }
+
+    fn note_again(&self) {
+        if self.note().is_ok() {
+            self.tell("journal's end noted", "has ended, which is noted beside it now");
+        }
+    }
+
+    fn tell(&self, kind: &'static str, text: impl Display) {
+        let Target { path, log, .. } = &self.target;
+        let event = Event { kind, place: Place::Relay };
+        log.record(event, None, format_args!("the journal '{}' {text}", path.display()));
     }
 }

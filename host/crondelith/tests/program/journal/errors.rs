@@ -1,10 +1,14 @@
 //! What can't be judged or shown has a reason and status 2, since 1 is for a contradicted journal.
 
 use std::fs::{self, File};
+use std::io::Write;
 use std::process::{Command, Stdio};
 
 use super::{journal, judged, scene};
 use crate::support::{program, run, text, Ended, Running};
+
+/// Bytes of memory for a program that is given more.
+const MEMORY: u64 = 100 << 20;
 
 fn assert_reason(ended: &Ended, reason: &str) {
     assert_eq!((ended.status, ended.stdout.as_str()), (Some(2), ""), "{}", ended.stderr);
@@ -65,6 +69,20 @@ fn a_pipe_is_read_too() {
     let ended = Running::start(program(&["journal", "/dev/stdin", "--start", "100"]).stdin(pipe)).end();
     source.wait().expect("its end");
     assert!(ended.status == Some(0) && ended.stdout.contains("', 8 records\n"), "{}{}", ended.stdout, ended.stderr);
+}
+
+#[test]
+fn a_pipe_that_is_longer_than_the_memory() {
+    let command = &mut program(&["journal", "/dev/stdin", "--start", "0"]);
+    let (pipe, mut source) = std::io::pipe().expect("a pipe");
+    let running = Running::start(command.stdin(pipe));
+    running.allow_memory(MEMORY);
+    // The program has its own copy of the pipe's end; else it would never be broken.
+    command.stdin(Stdio::null());
+    let written =
+        std::iter::repeat_n([0; 1 << 16], MEMORY as usize >> 16).try_for_each(|block| source.write_all(&block));
+    assert!(written.is_err(), "so much is read");
+    assert_reason(&running.end(), "the journal '/dev/stdin': out of memory");
 }
 
 #[test]

@@ -50,6 +50,30 @@ fn charges_after_the_last_saved_state_are_not_forgotten() {
     files.assert_agree();
 }
 
+/// What the state has had is filled up to the journal's time before it is compared.
+#[test]
+fn free_calls_after_the_last_saved_state_are_no_gap() {
+    let (files, clock) = (Files::new(), Standing::from(NOW));
+    let relay = files.start(clock.clone());
+    let mut peer = relay.peer(1);
+    (0..100).for_each(|_| peer.send(Message::Keepalive));
+    relay.await_done(1, 102);
+    relay.wait_until(|| files.tables().level(1, NOW) == level_after(100), "the state isn't saved");
+    let saved = fs::read(&files.state).expect("a state");
+    clock.pass(3);
+    relay.wait_until(|| records(&files.bytes()).last().is_some_and(|record| record.0 == NOW + 3), "no later check");
+    let killed = files.killed(&saved);
+    end(relay, vec![peer]);
+    assert_eq!(killed.tables().clock(), NOW);
+    let later = records(&killed.bytes()).into_iter().filter(|record| record.0 > NOW);
+    assert!(later.map(|record| record.5).sum::<u32>() == 0, "they are free");
+    let relay = killed.start(Standing::from(NOW + 3));
+    relay.await_line("journal' goes on after");
+    assert!(!relay.has_line("lacks calls"));
+    relay.stop();
+    killed.assert_agree();
+}
+
 /// The state has an open connection, which its relay closes at the start.
 #[test]
 fn the_closes_at_loading_have_records() {
@@ -138,6 +162,13 @@ fn a_journal_that_lacks_calls_of_the_state_has_ended() {
         end(relay, vec![peer]);
         assert_eq!(files.tables().level(1, NOW + later), kept.level(1, NOW + later) - CONNECTED_COST);
         assert!(files.bytes() == lost && Start::read(&files.journal).expect("a start").ended, "it is left as it was");
+        // It still lacks them at the next start, which has nothing more to note.
+        let kept = files.tables();
+        let lines = files.start(clock.clone()).stop().1;
+        assert!(lines.iter().any(|line| line.contains("journal' has ended, so none is written")), "{lines:?}");
+        assert!(!lines.iter().any(|line| line.contains("lacks calls")), "{lines:?}");
+        assert!(files.tables() == kept && files.bytes() == lost, "it is left as it was");
+        assert!(Start::read(&files.journal).expect("a start").ended);
     }
 }
 
@@ -211,7 +242,9 @@ fn without_a_state_every_start_is_a_fresh_one() {
 fn a_state_and_a_journal_share_no_file() {
     let mut files = Files::new();
     let folder = files.folder.path().to_owned();
-    for (state, journal) in [("j", "./j"), ("j.start", "j"), ("j", "j.lock"), ("j.start.new", "j"), ("j", "j.new")] {
+    let names =
+        [("j.start", "j"), ("j", "j.lock"), ("j.start.new", "j"), ("j", "j.new"), ("j.1", "j"), ("j.1.start", "j")];
+    for (state, journal) in names {
         (files.state, files.journal) = (folder.join(state), folder.join(journal));
         let refusal = files.refusal();
         assert!(refusal.ends_with("is a file of both the state and the journal"), "{refusal}");
