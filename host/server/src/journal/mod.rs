@@ -20,7 +20,7 @@ use engine::relay::Record;
 use writer::Writer;
 
 /// Bytes of records that are handed over at once, before it is time to: so many that handing over hardly counts.
-const BATCH: usize = 65_536;
+const BATCH: usize = 262_144;
 
 /// The loop's side of a journal.
 pub(crate) struct Journal {
