@@ -5,7 +5,7 @@ use std::env;
 use std::path::{Path, PathBuf};
 
 const FOLDER_VARIABLE: &str = "CRONDELITH_LIB";
-const ARCHIVES: [&str; 3] = ["svsc", "crondelith", "crondelith_reasons"];
+const ARCHIVES: [&str; 4] = ["svsc", "svsc_frames", "crondelith", "crondelith_reasons"];
 
 fn main() {
     println!("cargo::rerun-if-env-changed={FOLDER_VARIABLE}");

@@ -4,6 +4,7 @@
 mod aligned;
 #[macro_use]
 mod on_tables;
+pub mod frames;
 pub mod reasons;
 pub mod relay;
 pub mod svsc;

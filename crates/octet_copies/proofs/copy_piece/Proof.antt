@@ -2,10 +2,10 @@
 use native.Mathlib.Omega.{arith}
 use Prim.Native.Nat.{_-_}
 use lib.ListN.{length, length-take}
-use Rattle.data_copy.proofs.Pieces.{by-array}
+use Rattle.octet_copies.proofs.Pieces.{by-array}
 use borrow.Author.Needs.{needs}
-use Rattle.data_copy.proofs.copy_piece.Statement.{statement}
-use Rattle.data_copy.proofs.copy_piece.Tie as tie
+use Rattle.octet_copies.proofs.copy_piece.Statement.{statement}
+use Rattle.octet_copies.proofs.copy_piece.Tie as tie
 
 slice-aggregate-store : tie.Need-slice-aggregate-store
 slice-aggregate-store c = search needs

@@ -5,10 +5,10 @@ use mathlib.Core.Path.{_≡_, refl, sym, _∙_}
 use lib.ListN.{length, take}
 use Rattle.octets.specs.Octets.{put}
 use Rattle.octets.proofs.Stores.{length-put, put-none}
-use Rattle.data_copy.specs.Sizes.{pieceSize}
-use Rattle.data_copy.proofs.Pieces.{piece-length, piece-ends, next-piece, last-piece}
-use Rattle.data_copy.proofs.copy_pieces.Statement.{statement}
-use Rattle.data_copy.proofs.copy_pieces.Tie as tie
+use Rattle.octet_copies.specs.Sizes.{pieceSize}
+use Rattle.octet_copies.proofs.Pieces.{piece-length, piece-ends, next-piece, last-piece}
+use Rattle.octet_copies.proofs.copy_pieces.Statement.{statement}
+use Rattle.octet_copies.proofs.copy_pieces.Tie as tie
 
 abbrev Inv-loop : tie.InvT-loop
 Inv-loop buffer₀ at bytes i₀ buffer i = (i ≤ length bytes) × (buffer ≡ put buffer₀ at (take i bytes)) × (length buffer ≡ length buffer₀)

@@ -1,0 +1,5 @@
+pub mod Valid
+pub mod Headers
+pub mod Bodies
+pub mod Reached
+pub mod Steps
