@@ -9,6 +9,11 @@ fn the_codec_s_header_and_archive_serve_a_c_program() {
 }
 
 #[test]
+fn the_frames_header_and_archive_serve_a_c_program() {
+    compile_and_run("svsc_frames_check", engine::frames::ARCHIVE);
+}
+
+#[test]
 fn the_relay_s_header_and_archive_serve_a_c_program() {
     compile_and_run("crondelith_check", engine::relay::ARCHIVE);
 }

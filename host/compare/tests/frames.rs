@@ -36,6 +36,14 @@ fn single_steps_from_any_state() -> Result<(), Difference> {
 }
 
 #[test]
+fn every_length_and_every_type() -> Result<(), Difference> {
+    let reached = states::compare_headers(&Proved)?;
+    println!("{reached}");
+    assert!(reached.steps > 4 * 65_536);
+    Ok(())
+}
+
+#[test]
 fn frames_written_and_read_back() -> Result<(), Difference> {
     let tally = writes::compare(&Proved, WRITES)?;
     println!("{tally}");

@@ -22,7 +22,7 @@ pub const ANY: Ends = &[&[BETWEEN, WITHIN, LENGTH_0, ANOTHER_TYPE]];
 /// All that can happen, and the ends that it must come to.
 pub const DAMAGES: [(&str, Ends, Damage); 14] = [
     ("nothing", &[&[BETWEEN]], |_, _| {}),
-    ("a byte changed", ANY, change),
+    ("a byte changed", ANY, |random, stream| change(random, stream)),
     ("several bytes changed", ANY, |random, stream| (0..2 + random.below(4)).for_each(|_| change(random, stream))),
     ("a byte removed", ANY, remove),
     ("a byte inserted", ANY, insert),
@@ -65,7 +65,7 @@ fn any_byte(random: &mut Random) -> u8 {
     }
 }
 
-fn change(random: &mut Random, stream: &mut Vec<u8>) {
+fn change(random: &mut Random, stream: &mut [u8]) {
     if let Some(place) = place(random, stream) {
         stream[place] = any_byte(random);
     }

@@ -25,7 +25,7 @@ pub fn state(taken: u32, size: u32) -> &'static str {
         (0, 1) => REFUSED,
         (0, _) => NO_STATES[0],
         (1, 65_536..) => NO_STATES[2],
-        (1, _) if size % 256 == 0 => STATES[1],
+        (1, _) if size.is_multiple_of(256) => STATES[1],
         (1, _) => NO_STATES[1],
         (_, 0) => NO_STATES[3],
         (_, 65_536..) => NO_STATES[4],

@@ -2,8 +2,8 @@
 
 use std::fmt;
 
-use codec::frames::MESSAGE_LIMIT;
-use engine::frames::{Step, DONE, REFUSED, SHORT};
+use codec::frames::{encode, MESSAGE_LIMIT};
+use engine::frames::{Step, DONE, FRAME_LIMIT, REFUSED, SHORT};
 
 use super::agree::{self, Buffers};
 use super::boundary::Boundary;
@@ -13,6 +13,7 @@ use crate::difference::Difference;
 use crate::random::Random;
 use crate::tally::{Found, Tally};
 
+const FRESH: (u32, u32) = (0, 0);
 /// The longest of the buffers.
 const LONGER: usize = 66_000;
 const ROOMS: [usize; 6] = [0, 1, MESSAGE_LIMIT - 1, MESSAGE_LIMIT, MESSAGE_LIMIT + 1, LONGER];
@@ -66,25 +67,61 @@ pub fn compare(subject: &impl Boundary, number: u64) -> Result<Reached, Differen
     let mut random = amount::random();
     let mut buffers = Buffers::new(LONGER);
     let mut reached = Reached::default();
-    for size in SIZES {
-        for taken in TAKEN.into_iter().chain(BESIDES.map(|besides| size.wrapping_add(besides))) {
-            for room in ROOMS {
-                for length in lengths((taken, size)) {
-                    let chunk = continued(&mut random, (taken, size), length);
-                    reached.step(subject, (taken, size), &mut buffers, room, &chunk)?;
-                }
-            }
+    let mut step = |state, room, chunk: &[u8]| reached.step(subject, state, &mut buffers, room, chunk);
+    for state in edges() {
+        for (room, length) in ROOMS.into_iter().flat_map(|room| lengths(state).map(|length| (room, length))) {
+            step(state, room, &continued(&mut random, state, length))?;
         }
+    }
+    let frames = longest_frames(&mut random);
+    for (taken, size) in [FRESH, (1, 65_280), (2, 65_535), (3, 65_535), (1_003, 65_535)] {
+        for end in FRAME_LIMIT - 1..=FRAME_LIMIT + 4 {
+            step((taken, size), MESSAGE_LIMIT, &frames[taken as usize..end])?;
+        }
+        step((taken, size), MESSAGE_LIMIT, &frames[taken as usize..])?;
     }
     for _ in 0..amount::rounds(number) {
         let state = any_state(&mut random);
-        let length = match random.one_in(2) {
-            true => random.below(20),
-            false => random.choice(&lengths(state)),
-        };
-        let chunk = continued(&mut random, state, length);
+        let few = random.below(20);
+        let length = random.mostly(few, &lengths(state));
         let room = random.mostly(MESSAGE_LIMIT, &ROOMS);
-        reached.step(subject, state, &mut buffers, room, &chunk)?;
+        step(state, room, &continued(&mut random, state, length))?;
+    }
+    Ok(reached)
+}
+
+/// States around where they become others, or none.
+fn edges() -> impl Iterator<Item = (u32, u32)> {
+    SIZES.into_iter().flat_map(|size| {
+        let besides = BESIDES.map(|besides| size.wrapping_add(besides));
+        TAKEN.into_iter().chain(besides).map(move |taken| (taken, size))
+    })
+}
+
+/// Three of the longest frames.
+fn longest_frames(random: &mut Random) -> Vec<u8> {
+    encode(&random.bytes(MESSAGE_LIMIT)).expect("a message that fits").repeat(3)
+}
+
+/// Compares steps through every header: each length with type 1, byte by byte and at once, and each type.
+pub fn compare_headers(subject: &impl Boundary) -> Result<Reached, Difference> {
+    let mut buffers = Buffers::new(MESSAGE_LIMIT);
+    let mut reached = Reached::default();
+    let mut step = |state, chunk: &[u8]| reached.step(subject, state, &mut buffers, MESSAGE_LIMIT, chunk);
+    for length in 0..=u16::MAX {
+        let [high, low] = length.to_be_bytes();
+        let (first, size) = (u32::from(high) * 256, u32::from(length));
+        step(FRESH, &[high, low])?;
+        step(FRESH, &[high, low, 1, b'm'])?;
+        step((1, first), &[low])?;
+        step((2, size), &[1])?;
+    }
+    for kind in 0..=u8::MAX {
+        step(FRESH, &[kind])?;
+        for length in [1, 2, 300, u16::MAX] {
+            step((2, length.into()), &[kind])?;
+            step(FRESH, &[&length.to_be_bytes()[..], &[kind, 0]].concat())?;
+        }
     }
     Ok(reached)
 }
@@ -92,7 +129,7 @@ pub fn compare(subject: &impl Boundary, number: u64) -> Result<Reached, Differen
 /// Lengths of chunks: none, some, up to the end of the frame, and beyond.
 fn lengths((taken, size): (u32, u32)) -> [usize; 8] {
     let missing = u64::from(size) + 2 - u64::from(taken).min(u64::from(size) + 2);
-    let missing = missing.min(MESSAGE_LIMIT as u64) as usize;
+    let missing = missing.min(FRAME_LIMIT as u64) as usize;
     [0, 1, 2, 3, missing.saturating_sub(1), missing, missing + 1, missing + 7]
 }
 
@@ -130,7 +167,8 @@ fn continued(random: &mut Random, (taken, size): (u32, u32), length: usize) -> V
     let mut chunk = [header, random.bytes(of_message), vec![0, 3, 1]].concat();
     if random.one_in(2) {
         let place = random.below(chunk.len().min(3));
-        chunk[place] = random.choice(&[0, 0, 1, 2, 255]);
+        let any = random.byte();
+        chunk[place] = random.choice(&[0, 0, 1, 2, 255, any]);
     }
     while chunk.len() < length {
         chunk.push(random.byte());
