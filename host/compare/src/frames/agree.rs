@@ -80,8 +80,12 @@ struct Reader<'a, B> {
     state: (u32, u32),
     messages: Vec<Vec<u8>>,
     used: usize,
-    is_refused: bool,
+    /// How often it was refused.
+    refusals: usize,
 }
+
+/// A refused stream goes on until it was refused so often.
+const REFUSALS: usize = 5;
 
 /// Offers the chunks of a stream one by one. The messages and the end must be those of the chunks joined.
 pub fn stream<B: Boundary>(
@@ -93,11 +97,13 @@ pub fn stream<B: Boundary>(
 ) -> Result<(), Difference> {
     buffers.renew();
     let (state, messages) = ((0, 0), vec![]);
-    let mut reader = Reader { subject, buffers, short, steps, state, messages, used: 0, is_refused: false };
+    let mut reader = Reader { subject, buffers, short, steps, state, messages, used: 0, refusals: 0 };
     for chunk in chunks {
-        reader.offer(chunk)?;
+        if reader.refusals < REFUSALS {
+            reader.offer(chunk)?;
+        }
     }
-    if reader.is_refused {
+    if reader.refusals > 0 {
         reader.offer(&[])?;
         reader.offer(&[0, 2, 1, 13, 0, 1, 1])?;
     }
@@ -116,16 +122,15 @@ fn lengths(chunks: &[&[u8]]) -> Vec<usize> {
 impl<B: Boundary> Reader<'_, B> {
     /// Whatever a step leaves of the chunk is offered again, until one has taken all of it and has no message.
     fn offer(&mut self, mut chunk: &[u8]) -> Result<(), Difference> {
-        while !self.is_refused {
+        while self.refusals == 0 {
             let step = self.step(chunk)?;
             self.state = (step.taken, step.size);
             self.used += step.used as usize;
             chunk = &chunk[step.used as usize..];
-            self.is_refused = step.number == REFUSED;
-            if step.complete == 1 {
-                self.give(step.length as usize);
-            } else if !self.is_refused {
-                return Ok(());
+            match step {
+                Step { number: REFUSED, .. } => self.refusals = 1,
+                Step { complete: 1, length, .. } => self.give(length as usize),
+                _ => return Ok(()),
             }
         }
         self.stays_refused(chunk)
@@ -155,13 +160,14 @@ impl<B: Boundary> Reader<'_, B> {
         let call = || format!("({taken}, {size}) of a refused stream, {}", shown(chunk));
         same(call, &again, &Step { number: REFUSED, taken: 0, size: 1, ..Step::default() })?;
         self.steps.note(self.state, chunk, &again);
+        self.refusals += 1;
         same_bytes(call, &self.buffers.ours, &self.buffers.expected)
     }
 
     fn end(&self) -> End {
-        match self.is_refused {
-            true => End::Refused(self.used),
-            false => End::Within(self.state.0 as usize),
+        match self.refusals {
+            0 => End::Within(self.state.0 as usize),
+            _ => End::Refused(self.used),
         }
     }
 }

@@ -20,9 +20,10 @@ pub type Ends = &'static [&'static [&'static str]];
 pub const ANY: Ends = &[&[BETWEEN, WITHIN, LENGTH_0, ANOTHER_TYPE]];
 
 /// All that can happen, and the ends that it must come to.
-pub const DAMAGES: [(&str, Ends, Damage); 14] = [
+pub const DAMAGES: [(&str, Ends, Damage); 15] = [
     ("nothing", &[&[BETWEEN]], |_, _| {}),
     ("a byte changed", ANY, |random, stream| change(random, stream)),
+    ("a bit changed", ANY, |random, stream| change_bit(random, stream)),
     ("several bytes changed", ANY, |random, stream| (0..2 + random.below(4)).for_each(|_| change(random, stream))),
     ("a byte removed", ANY, remove),
     ("a byte inserted", ANY, insert),
@@ -68,6 +69,12 @@ fn any_byte(random: &mut Random) -> u8 {
 fn change(random: &mut Random, stream: &mut [u8]) {
     if let Some(place) = place(random, stream) {
         stream[place] = any_byte(random);
+    }
+}
+
+fn change_bit(random: &mut Random, stream: &mut [u8]) {
+    if let Some(place) = place(random, stream) {
+        stream[place] ^= 1 << random.below(8);
     }
 }
 

@@ -22,7 +22,8 @@ fn compare_streams(subject: &impl Boundary) -> Result<(), Difference> {
 }
 
 fn compare_steps(subject: &impl Boundary) -> Result<(), Difference> {
-    states::compare(subject, STEPS).map(drop)
+    states::compare(subject, STEPS)?;
+    states::compare_headers(subject).map(drop)
 }
 
 /// Each subject with one of these changes must differ.

@@ -271,7 +271,7 @@ pub const WRONG_STATES: [Wrong<Reading>; 12] = [
         rules.length = |size| size.min(65_535) as usize - 1;
     }),
     ("that size 65,536 is none", |rules| {
-        rules.is_valid = |(taken, size)| is_valid_or((taken, size), taken >= 2 && taken <= 65_537 && size == 65_536);
+        rules.is_valid = |(taken, size)| is_valid_or((taken, size), (2..=65_537).contains(&taken) && size == 65_536);
     }),
     ("that a first byte's size ends with 0", |rules| {
         rules.is_valid = |(taken, size)| is_valid_or((taken, size), taken == 1 && size < 65_536);
