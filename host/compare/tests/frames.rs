@@ -6,7 +6,7 @@ use compare::frames::boundary::Proved;
 use compare::frames::{cuts, kinds, states, streams, writes};
 use engine::frames::{DONE, REFUSED, SHORT};
 
-const STREAMS: u64 = 105_000;
+const STREAMS: u64 = 100_000;
 const STEPS: u64 = 100_000;
 const WRITES: u64 = 20_000;
 

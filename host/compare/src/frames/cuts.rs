@@ -10,7 +10,7 @@ use crate::random::Random;
 use crate::tally::Found;
 
 /// Streams of up to so many bytes are also offered byte by byte.
-const SHORT: usize = 24;
+const SHORT: usize = 20;
 
 /// The places at which to cut, in ascending order; one that comes twice makes an empty chunk.
 pub type Way = fn(&mut Random, &[u8]) -> Vec<usize>;

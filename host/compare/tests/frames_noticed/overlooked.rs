@@ -16,7 +16,7 @@ pub const WRONG_NUMBERS: [Wrong<Reading>; 9] = [
     ("that a message is told with 1", |rules| rules.answer = |step, _, _| Step { complete: 2 * step.complete, ..step }),
     ("what is used", |rules| rules.answer = |step, _, _| Step { used: step.used ^ 1 << 32, ..step }),
     ("the message's length", |rules| rules.answer = |step, _, _| Step { length: step.length ^ 1 << 16, ..step }),
-    ("what is taken", |rules| rules.answer = |step, _, _| Step { taken: step.taken + 1, ..step }),
+    ("what is taken", |rules| rules.answer = |step, _, _| Step { taken: step.taken ^ 1 << 31, ..step }),
     ("the size", |rules| rules.answer = |step, _, _| Step { size: step.size ^ 1 << 31, ..step }),
     ("the buffer's first byte", |rules| {
         rules.answer = |step, _, message| {
@@ -263,9 +263,9 @@ pub const WRONG_STATES: [Wrong<Reading>; 12] = [
     ("that there aren't more bytes than a frame has", |rules| {
         rules.is_valid = |(taken, size)| is_valid_or((taken, size), taken > 2 && (1..65_536).contains(&size));
     }),
-    ("that size and 2 are compared without wrapping", |rules| {
+    ("that larger sizes are none", |rules| {
         rules.is_valid = |(taken, size)| match size {
-            65_536.. => taken > 2 && taken < size.wrapping_add(2) && taken < 65_536 + 3,
+            65_536.. => (3..65_538).contains(&taken),
             _ => (RIGHT.is_valid)((taken, size)),
         };
         rules.length = |size| size.min(65_535) as usize - 1;
