@@ -1,7 +1,10 @@
 //! The C boundary as a trait, and the two implementations behind it.
 
 use codec::frames::{self, Numbers};
-use engine::frames::{Step, Written, DONE};
+use engine::frames::{Step, Written, DONE, FRAME_LIMIT, MESSAGE_LIMIT};
+
+// The engine's limits are those of the second implementation.
+const _: () = assert!(MESSAGE_LIMIT == frames::MESSAGE_LIMIT && FRAME_LIMIT == frames::MESSAGE_LIMIT + 3);
 
 pub trait Boundary {
     fn read(&self, taken: u32, size: u32, message: &mut [u8], chunk: &[u8]) -> Step;
