@@ -25,4 +25,9 @@ impl BufferPool {
             self.buffers.push(buffer);
         }
     }
+
+    #[cfg(test)]
+    pub fn count(&self) -> usize {
+        self.buffers.len()
+    }
 }

@@ -29,8 +29,6 @@ pub struct Connection {
     pub hold: Option<Hold>,
     /// Its first message, or its open, has been refused for allowance.
     pub waits: bool,
-    /// The one that it is in session with.
-    pub paired: Option<SocketId>,
     /// By when the peer has to have sent what is expected of it: its version answer, the rest of a frame, or its end.
     pub due: Option<Instant>,
     pub progress: Option<Progress>,
@@ -86,7 +84,6 @@ impl Connection {
             ended: false,
             hold: None,
             waits: false,
-            paired: None,
             due: Some(due),
             progress: None,
         }

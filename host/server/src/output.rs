@@ -8,8 +8,8 @@
 
 use std::io::{self, Write};
 
-use engine::{aligned_start, DATA_ALIGNMENT};
-use frames::{HEADER, MESSAGE_LIMIT};
+use engine::frames::{write, FRAME_LIMIT};
+use frames::{MESSAGE_LIMIT, OVERHEAD};
 
 use crate::buffer_pool::BufferPool;
 
@@ -18,7 +18,7 @@ pub const BOUND: usize = 98_304;
 /// More can't wait, unless connections add to the output and leave, over and over.
 const EXCESS: usize = 2 * BOUND + MESSAGE_LIMIT;
 /// Room for the bound and a frame of the largest size. More is needed only if several fill an output at once.
-pub const CAPACITY: usize = BOUND + DATA_ALIGNMENT + HEADER + MESSAGE_LIMIT;
+pub const CAPACITY: usize = BOUND + FRAME_LIMIT;
 
 /// Frames that wait to be written, in their order.
 #[derive(Default)]
@@ -49,23 +49,9 @@ impl Output {
 
     /// Adds the message's frame.
     pub fn append(&mut self, message: &[u8], spare: &mut BufferPool) {
-        self.room(message.len(), spare).copy_from_slice(message);
-        self.commit(message.len());
-    }
-
-    /// Room for a message of this length. What is written there counts when it is committed.
-    pub fn room(&mut self, length: usize, spare: &mut BufferPool) -> &mut [u8] {
-        self.make_room(HEADER + length, spare);
-        &mut self.buffer[self.end + HEADER..][..length]
-    }
-
-    /// Makes a frame of what was written to the room's first bytes.
-    pub fn commit(&mut self, length: usize) {
+        self.make_room(message.len() + OVERHEAD, spare);
         // The engine sends no message too long for a frame.
-        if let Some(header) = frames::header(length) {
-            self.buffer[self.end..][..HEADER].copy_from_slice(&header);
-            self.end += HEADER + length;
-        }
+        self.end += write(&mut self.buffer[self.end..], message).length as usize;
     }
 
     /// Writes as much as the stream takes. Gives how much that was.
@@ -103,8 +89,7 @@ impl Output {
             if self.buffer.is_empty() {
                 self.buffer = spare.take();
             }
-            self.start = front(&self.buffer);
-            self.end = self.start;
+            (self.start, self.end) = (0, 0);
         }
         if self.buffer.len() - self.end < length {
             self.move_to_front(length);
@@ -114,23 +99,16 @@ impl Output {
     /// Moves what waits to the front, of a larger buffer where this one can't hold so many bytes more.
     fn move_to_front(&mut self, length: usize) {
         let waiting = self.start..self.end;
-        let needed = DATA_ALIGNMENT + waiting.len() + length;
+        let needed = waiting.len() + length;
+        (self.start, self.end) = (0, waiting.len());
         if needed <= self.buffer.len() {
-            self.start = front(&self.buffer);
-            self.buffer.copy_within(waiting.clone(), self.start);
+            self.buffer.copy_within(waiting, 0);
         } else {
             let mut larger = vec![0; needed.next_multiple_of(CAPACITY)].into_boxed_slice();
-            self.start = front(&larger);
-            larger[self.start..][..waiting.len()].copy_from_slice(&self.buffer[waiting.clone()]);
+            larger[..waiting.len()].copy_from_slice(&self.buffer[waiting]);
             self.buffer = larger;
         }
-        self.end = self.start + waiting.len();
     }
-}
-
-/// Where the first frame begins: its message's data comes after the header and a type byte.
-fn front(buffer: &[u8]) -> usize {
-    aligned_start(buffer, HEADER + 1)
 }
 
 #[cfg(test)]
@@ -139,6 +117,12 @@ mod tests {
 
     use super::{Output, CAPACITY};
     use crate::buffer_pool::BufferPool;
+
+    /// A message's frame, by section 3.1.
+    fn frame(message: &[u8]) -> Vec<u8> {
+        let [high, low] = (message.len() as u16 + 1).to_be_bytes();
+        [&[high, low, 1], message].concat()
+    }
 
     /// Takes so many bytes at a time, and then no more for once.
     struct Stream {
@@ -170,13 +154,8 @@ mod tests {
         let mut stream = Stream { taken: Vec::new(), at_a_time: 50_000, full: false };
         for round in 0..60_u8 {
             let message = vec![round; 65_534 / (1 + usize::from(round % 4))];
-            frames::append(&message, &mut expected).expect("a frame");
-            if round % 2 == 0 {
-                output.append(&message, &mut spare);
-            } else {
-                output.room(message.len(), &mut spare).copy_from_slice(&message);
-                output.commit(message.len());
-            }
+            expected.extend(frame(&message));
+            output.append(&message, &mut spare);
             assert_eq!(output.is_full(), output.len() >= 98_304);
             output.write_to(&mut stream, &mut spare).expect("a write");
         }
@@ -196,7 +175,7 @@ mod tests {
         let mut sizes = Vec::new();
         for round in 0..40_u8 {
             let message = (0..60_001).map(|place| (place % 249) as u8 ^ round).collect::<Vec<_>>();
-            frames::append(&message, &mut expected).expect("a frame");
+            expected.extend(frame(&message));
             output.append(&message, &mut spare);
             sizes.push(output.buffer.len());
             if round > 4 {
@@ -210,24 +189,28 @@ mod tests {
         assert!(stream.taken == expected, "other bytes");
     }
 
-    /// Also where what waits and what comes fit the buffer to the byte.
+    /// Also where what waits and what comes fill the buffer to the byte. Only what doesn't fit makes it larger.
     #[test]
-    fn there_is_as_much_room_as_is_asked_for() {
-        for length in CAPACITY - 60_200..CAPACITY - 59_900 {
+    fn there_is_as_much_room_as_is_needed() {
+        let before = [[7; 60_000], [8; 60_000]];
+        let fitting = CAPACITY - 2 * 60_003 - 3;
+        for length in fitting - 5..=fitting + 5 {
             let (mut spare, mut output) = (BufferPool::new(CAPACITY), Output::default());
-            output.append(&[7; 60_000], &mut spare);
-            assert_eq!(output.room(length, &mut spare).len(), length);
+            let last = vec![9; length];
+            before.iter().for_each(|message| output.append(message, &mut spare));
+            output.append(&last, &mut spare);
+            assert_eq!(output.buffer.len() == CAPACITY, length <= fitting, "{length}");
+            let expected = [frame(&before[0]), frame(&before[1]), frame(&last)].concat();
+            assert!(output.buffer[output.start..output.end] == expected, "{length}: other bytes");
         }
     }
 
     #[test]
-    fn the_data_of_the_first_message_is_aligned() {
+    fn short_messages_have_their_frames() {
         let (mut spare, mut output) = (BufferPool::new(CAPACITY), Output::default());
-        for _ in 0..2 {
-            let room = output.room(65_534, &mut spare);
-            assert_eq!(room[1..].as_ptr() as usize % 64, 0);
-            output.commit(65_534);
-            output.clear(&mut spare);
+        for message in [&b"hi"[..], b"", &[13]] {
+            output.append(message, &mut spare);
         }
+        assert_eq!(output.buffer[..output.end], [0, 3, 1, b'h', b'i', 0, 1, 1, 0, 2, 1, 13]);
     }
 }

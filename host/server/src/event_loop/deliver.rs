@@ -3,7 +3,6 @@
 use engine::relay::{Answer, NOBODY};
 
 use super::EventLoop;
-use crate::message::{ESTABLISH_REQUEST, SESSION_END};
 use crate::sockets::SocketId;
 
 impl EventLoop {
@@ -16,20 +15,11 @@ impl EventLoop {
         }
     }
 
-    /// What is relayed stands in the room of an output, or else in the scratch buffer.
-    pub(super) fn deliver_relay(&mut self, answer: Answer, output: Option<SocketId>) {
+    /// What is relayed stands in the scratch buffer.
+    pub(super) fn deliver_relay(&mut self, answer: Answer) {
         let Some(destination) = self.destination(answer) else { return };
-        let length = answer.relay as usize;
-        let place = destination.place();
-        match output {
-            Some(output) if output == destination => self.outputs[place].commit(length),
-            Some(output) => {
-                // Not met: the host pairs as the engine does.
-                let copy = self.outputs[output.place()].room(length, &mut self.spare_outputs).to_vec();
-                self.outputs[place].append(&copy, &mut self.spare_outputs);
-            }
-            None => self.outputs[place].append(&self.scratch[..length], &mut self.spare_outputs),
-        }
+        let relayed = &self.scratch[..answer.relay as usize];
+        self.outputs[destination.place()].append(relayed, &mut self.spare_outputs);
         self.note_filled(destination);
     }
 
@@ -43,33 +33,6 @@ impl EventLoop {
     fn note_filled(&mut self, socket: SocketId) {
         if self.filled.last() != Some(&socket) {
             self.filled.push(socket);
-        }
-    }
-
-    /// Sessions, as the engine has them: one begins with the notification of its establishing, and ends with that of its
-    /// end.
-    pub(super) fn follow_session(&mut self, caller: SocketId, kind: Option<u8>, answer: Answer) {
-        let Some(destination) = self.destination(answer) else { return };
-        match kind {
-            Some(ESTABLISH_REQUEST) => self.pair(caller, destination),
-            Some(SESSION_END) => self.part(caller),
-            _ => {}
-        }
-    }
-
-    fn pair(&mut self, one: SocketId, other: SocketId) {
-        for (socket, paired) in [(one, other), (other, one)] {
-            if let Some(connection) = self.sockets.get_mut(socket) {
-                connection.paired = Some(paired);
-            }
-        }
-    }
-
-    /// Ends a connection's session, if it has one.
-    pub(super) fn part(&mut self, socket: SocketId) {
-        let paired = self.sockets.get_mut(socket).and_then(|connection| connection.paired.take());
-        if let Some(other) = paired.and_then(|paired| self.sockets.get_mut(paired)) {
-            other.paired = None;
         }
     }
 

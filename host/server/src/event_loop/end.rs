@@ -20,7 +20,6 @@ impl EventLoop {
             self.log_connection(socket, why.kind(), &why);
             self.partner_of(socket).turns.leave(socket);
             self.close(socket, &why);
-            self.part(socket);
         }
         // Nothing is added to its output any more.
         self.release_senders(socket);
@@ -78,7 +77,7 @@ impl EventLoop {
             Ok(answer) => {
                 self.partner_of(socket).statistics.done += 1;
                 if !quietly {
-                    self.deliver_relay(answer, None);
+                    self.deliver_relay(answer);
                 }
             }
             Err(refusal) => self.log_connection(socket, "not closed", refusal),

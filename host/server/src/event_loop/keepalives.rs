@@ -47,7 +47,7 @@ impl EventLoop {
     /// Does what the engine says. Of the checks only one that closes its connection counts as a call done.
     fn follow_check(&mut self, socket: SocketId, answer: Answer) {
         self.deliver_reply(socket, answer);
-        self.deliver_relay(answer, None);
+        self.deliver_relay(answer);
         if answer.disconnect != 0 {
             self.partner_of(socket).statistics.done += 1;
             self.end(socket, End::Unanswered);

@@ -22,6 +22,7 @@ use std::sync::mpsc::Receiver;
 use std::sync::Arc;
 use std::time::{Duration, Instant};
 
+use engine::RelayBuffer;
 use frames::MESSAGE_LIMIT;
 use mio::event::Event;
 use mio::{Events, Interest, Poll, Token};
@@ -30,6 +31,7 @@ use crate::buffer_pool::BufferPool;
 use crate::calls::REPLY_LENGTH;
 use crate::limits::Limits;
 use crate::log::{self, Log, Place, Said};
+use crate::output;
 use crate::output::Output;
 use crate::port::{Listeners, Port};
 use crate::random::Random;
@@ -39,7 +41,6 @@ use crate::server::Command;
 use crate::sockets::{SocketId, Sockets, PLACES};
 use crate::statistics::Statistics;
 use crate::turns::Turns;
-use crate::{input, output};
 
 /// Events that are taken at a time.
 const EVENTS: usize = 256;
@@ -62,8 +63,8 @@ pub struct EventLoop {
     spare_outputs: BufferPool,
     /// Lent for what is replied.
     reply: [u8; REPLY_LENGTH],
-    /// Lent for what is relayed where the output isn't known beforehand.
-    scratch: Box<[u8]>,
+    /// Lent for what is relayed, and for what is read for nobody.
+    scratch: RelayBuffer,
     partners: Vec<Partner>,
     /// The one that is served first in the next turn.
     first_partner: usize,
@@ -122,10 +123,10 @@ impl EventLoop {
             commands,
             sockets: Sockets::new(),
             outputs: (0..PLACES).map(|_| Output::default()).collect(),
-            spare_inputs: BufferPool::new(input::CAPACITY),
+            spare_inputs: BufferPool::new(frames::CAPACITY),
             spare_outputs: BufferPool::new(output::CAPACITY),
             reply: [0; REPLY_LENGTH],
-            scratch: vec![0; MESSAGE_LIMIT].into(),
+            scratch: RelayBuffer::new(MESSAGE_LIMIT),
             partners: listeners.into_ports().into_iter().map(partner).collect(),
             first_partner: 0,
             ready: Vec::new(),

@@ -73,8 +73,8 @@ impl EventLoop {
             }
             return self.partner_of(socket).turns.join(socket);
         }
-        match connection.input.error() {
-            Some(error) => self.end(socket, End::Unreadable(error)),
+        match connection.input.refusal() {
+            Some(refusal) => self.end(socket, End::Unreadable(refusal.into())),
             None if !connection.ended => self.expect_bytes(socket),
             None if connection.input.is_empty() => self.end(socket, End::Left),
             None => self.end(socket, End::Unreadable(frames::Error::Cut)),

@@ -13,7 +13,7 @@ use crate::refusal::{Consequence, Refusal, ShortRefusal};
 use crate::sockets::SocketId;
 
 /// What a partner's messages may cost in a turn if no other has any: so much that the turn's own cost hardly counts. It is
-/// about as much as two sends of the largest size, which is what a connection's input holds.
+/// about as much as two sends of the largest size, which is the most that a connection's input holds.
 const TURN: usize = 262_144;
 /// What they may cost together if several partners have any: so little that a neighbour doesn't wait long for the next.
 const SHARED_TURN: usize = 32_768;
@@ -128,14 +128,8 @@ impl EventLoop {
             },
             None => &NOT_RANDOM,
         };
-        // Data is written where it is to go.
-        let output = connection.paired.filter(|_| kind == Some(DATA_SEND));
-        let room = relay_length(length);
-        let relay = match output {
-            Some(paired) => self.outputs[paired.place()].room(room, &mut self.spare_outputs),
-            None => &mut self.scratch[..room],
-        };
-        let answer = match self.relay.message(number, message, random, &mut self.reply, relay) {
+        let room = &mut self.scratch[..relay_length(length)];
+        let answer = match self.relay.message(number, message, random, &mut self.reply, room) {
             Ok(answer) => answer,
             Err(refusal) => {
                 let random = *random;
@@ -145,9 +139,9 @@ impl EventLoop {
         connection.take();
         self.count_done(socket, length);
         self.deliver_reply(socket, answer);
-        self.deliver_relay(answer, output);
+        self.deliver_relay(answer);
         if kind != Some(DATA_SEND) {
-            self.follow(socket, kind, answer);
+            self.follow(socket, answer);
         }
         self.keep_bound(socket, answer);
     }
@@ -159,8 +153,7 @@ impl EventLoop {
     }
 
     /// What else follows from an accepted message that isn't data.
-    fn follow(&mut self, socket: SocketId, kind: Option<u8>, answer: Answer) {
-        self.follow_session(socket, kind, answer);
+    fn follow(&mut self, socket: SocketId, answer: Answer) {
         let Some(connection) = self.sockets.get_mut(socket) else { return };
         if connection.phase == Phase::Greeted {
             (connection.phase, connection.due) = (Phase::Open, None);

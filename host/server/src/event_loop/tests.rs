@@ -88,7 +88,6 @@ fn act_on(event_loop: &mut EventLoop, socket: SocketId) {
     event_loop.discard(socket);
     event_loop.go_on(socket);
     event_loop.offer(socket);
-    event_loop.part(socket);
     event_loop.say_goodbye(socket);
     event_loop.free(socket);
     event_loop.end(socket, End::Left);
