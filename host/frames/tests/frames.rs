@@ -2,7 +2,13 @@
 
 use std::io::{self, Read};
 
-use frames::{append, Error, Reader, MESSAGE_LIMIT};
+use frames::{append, Error, InputBuffer, Reader, Refusal, CAPACITY, MESSAGE_LIMIT};
+
+/// A message's frame, by section 3.1.
+fn frame(message: &[u8]) -> Vec<u8> {
+    let [high, low] = (message.len() as u16 + 1).to_be_bytes();
+    [&[high, low, 1], message].concat()
+}
 
 /// A stream that gives its bytes in pieces of at most this length, with a timeout before each.
 struct Pieces<'a> {
@@ -48,13 +54,22 @@ fn a_frame_is_length_type_message() {
 }
 
 #[test]
-fn what_is_framed_is_read_back_however_the_stream_is_cut() {
+fn the_longest_message_has_a_frame_and_a_longer_one_none() {
+    let mut bytes = vec![7];
+    append(&[8; 65_534], &mut bytes).expect("a frame");
+    assert!(bytes == [&[7, 255, 255, 1][..], &[8; 65_534]].concat());
+    bytes.truncate(1);
+    for length in [65_535, 65_536, 200_000] {
+        assert_eq!(append(&vec![0; length], &mut bytes), None);
+        assert_eq!(bytes, [7]);
+    }
+}
+
+#[test]
+fn messages_are_read_however_the_stream_is_cut() {
     let longest: Vec<u8> = (0..MESSAGE_LIMIT).map(|at| at as u8).collect();
     let messages = [vec![13], vec![], longest.clone(), vec![0; 300], longest, vec![9]];
-    let mut bytes = Vec::new();
-    for message in &messages {
-        append(message, &mut bytes).expect("a frame");
-    }
+    let bytes = messages.iter().flat_map(|message| frame(message)).collect::<Vec<_>>();
     for length in [1, 2, 3, 4, 1000, 65_536, 200_000] {
         let (read, error) = read_all(&bytes, length);
         assert_eq!(read, messages);
@@ -63,26 +78,85 @@ fn what_is_framed_is_read_back_however_the_stream_is_cut() {
 }
 
 #[test]
-fn a_message_too_long_has_no_frame() {
-    let mut bytes = vec![7];
-    assert_eq!(append(&vec![0; MESSAGE_LIMIT + 1], &mut bytes), None);
-    assert_eq!(bytes, [7]);
-}
-
-#[test]
 fn what_is_no_frame_is_refused_after_the_frames_before_it() {
-    for length in [1, 100] {
+    for length in [1, 2, 3, 100] {
         let refused = |bytes: &[u8]| {
             let (messages, error) = read_all(&[&[0, 2, 1, 13], bytes].concat(), length);
             assert_eq!(messages, [[13]]);
-            error
+            error.map(|error| error.to_string())
         };
-        assert!(matches!(refused(&[0, 0]), Some(Error::NoLength)));
-        assert!(matches!(refused(&[0, 0, 1, 5]), Some(Error::NoLength)));
-        assert!(matches!(refused(&[0, 2, 2, 13]), Some(Error::WrongType(2))));
-        assert!(matches!(refused(&[0]), Some(Error::Cut)));
-        assert!(matches!(refused(&[0, 1]), Some(Error::Cut)));
-        assert!(matches!(refused(&[0, 3, 1, 11]), Some(Error::Cut)));
-        assert!(refused(&[]).is_none());
+        let (no_length, cut) = (Some("a frame of length 0".into()), Some("the stream ended within a frame".into()));
+        assert_eq!(refused(&[0, 0]), no_length);
+        assert_eq!(refused(&[0, 0, 1, 5]), no_length);
+        assert_eq!(refused(&[0, 2, 2, 13]), Some("a frame of type 2, not 1".into()));
+        assert_eq!(refused(&[255, 255, 0]), Some("a frame of type 0, not 1".into()));
+        assert_eq!(refused(&[0]), cut);
+        assert_eq!(refused(&[0, 1]), cut);
+        assert_eq!(refused(&[0, 3, 1]), cut);
+        assert_eq!(refused(&[0, 3, 1, 11]), cut);
+        assert_eq!(refused(&[]), None);
     }
+}
+
+#[test]
+fn a_refused_stream_stays_refused_for_the_same_reason() {
+    let mut stream = &[&[0, 2, 5][..], &frame(b"a message")].concat()[..];
+    let mut reader = Reader::default();
+    for _ in 0..3 {
+        let refused = reader.next(&mut stream);
+        assert!(matches!(refused, Err(Error::Refused(Refusal::WrongType(5)))), "{refused:?}");
+    }
+}
+
+#[test]
+fn an_interrupted_read_is_made_again() {
+    struct Interrupted<'a>(&'a [u8], bool);
+    impl Read for Interrupted<'_> {
+        fn read(&mut self, to: &mut [u8]) -> io::Result<usize> {
+            self.1 = !self.1;
+            if self.1 {
+                return Err(io::ErrorKind::Interrupted.into());
+            }
+            self.0.read(to)
+        }
+    }
+    let bytes = frame(b"hi");
+    let mut stream = Interrupted(&bytes, false);
+    let mut reader = Reader::default();
+    assert_eq!(reader.next(&mut stream).expect("a frame"), Some(&b"hi"[..]));
+    assert_eq!(reader.next(&mut stream).expect("the end"), None);
+}
+
+/// Reads once, with new memory if it is asked for. Gives whether it was.
+fn read_once(buffer: &mut InputBuffer, mut bytes: &[u8]) -> bool {
+    let mut is_asked = false;
+    let memory = || {
+        is_asked = true;
+        vec![0; CAPACITY].into()
+    };
+    let expected = bytes.len();
+    assert_eq!(buffer.read_from(&mut bytes, memory).expect("a read"), expected);
+    is_asked
+}
+
+#[test]
+fn memory_is_needed_for_a_message_and_not_for_a_header() {
+    let mut buffer = InputBuffer::default();
+    for byte in [0, 3, 1] {
+        assert!(read_once(&mut buffer, &[byte]), "it has given it back");
+        assert!(buffer.release().is_some_and(|memory| memory.len() == CAPACITY));
+        assert!(buffer.release().is_none(), "it has none");
+        assert!(!buffer.is_empty(), "a frame has begun");
+    }
+    assert!(read_once(&mut buffer, b"h"));
+    assert!(buffer.release().is_none());
+    assert!(!read_once(&mut buffer, &[&b"i"[..], &frame(b""), &[0]].concat()));
+    assert_eq!(buffer.message(), Some(&b"hi"[..]));
+    for expected in [Some(&b""[..]), None] {
+        assert!(buffer.release().is_none());
+        buffer.take();
+        assert_eq!(buffer.message(), expected);
+    }
+    assert!(buffer.release().is_some() && !buffer.is_empty(), "the next frame has begun");
+    assert!(buffer.discard().is_none() && buffer.is_empty());
 }
