@@ -3,11 +3,13 @@
 
 mod calls;
 mod cases;
+mod framing;
 mod journals;
 mod longest_lease;
 mod loopback;
 mod maps;
 mod measure;
+mod memory;
 pub mod peers;
 mod relays;
 mod replays;
@@ -28,11 +30,13 @@ the other side, which is the second implementation unless the row says otherwise
 below 1 the engine is faster. Both sides are measured in turn, batch by batch, and the median batch
 counts. Every answer is checked, and after every batch the bytes that both sides left. A plain copy
 is the C library's, of a send's data from the same message to the same buffer; where it begins in
-both is told, since that counts. A journal is one that the engine's own calls make, and its replay
-must come to that relay's allowances; in its rows a repetition is a record. The last rows are the
-whole relay over TCP on this machine: beside a loop that copies from one socket to another, and with
-a journal beside one without, all on one core, where what the journal's thread does counts too. The
-clock jumps, so that nobody waits for an allowance.
+both is told, since that counts. Of a frame it is one of the message, from the same chunk to the
+same buffer where a frame is read, and the other way where it is written. A journal is one that the
+engine's own calls make, and its replay must come to that relay's allowances; in its rows a
+repetition is a record. The last rows are the whole relay over TCP on this machine: beside a loop
+that copies from one socket to another, and with a journal beside one without, all on one core,
+where what the journal's thread does counts too. The clock jumps, so that nobody waits for an
+allowance.
 
 With --peers each relay is a process of its own, and those that aren't installed are left out. The
 same frames go through all: ours hands them on from one connection of a partner to another in
@@ -125,13 +129,15 @@ impl Section {
 }
 
 /// The sections, in the table's order.
-const SECTIONS: [fn() -> Result<Section, Failure>; 9] = [
+const SECTIONS: [fn() -> Result<Section, Failure>; 11] = [
     calls::section,
     maps::section,
     longest_lease::section,
     longest_lease::made_by_hand,
     sends::by_length,
     sends::by_place,
+    framing::reading,
+    framing::writing,
     replays::section,
     loopback::section,
     journals::section,

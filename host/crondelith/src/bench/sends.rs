@@ -1,7 +1,5 @@
 //! Sends of the engine against a plain copy of their data.
 
-mod memory;
-
 use std::hint::black_box;
 use std::time::Duration;
 
@@ -10,10 +8,10 @@ use engine::relay;
 
 use super::cases::{self, Case};
 use super::measure::{batch, Comparison};
+use super::memory::{Memory, Place, ALIGNED, BUFFER_OFF, MESSAGE_OFF, NEAR};
 use super::relays::{Kind, Lent};
 use super::{compare, Aim, Limit, Row, Section};
 use crate::Failure;
-use memory::{Memory, Place, ALIGNED, BUFFER_OFF, MESSAGE_OFF, NEAR};
 
 /// A send, and what is hoped of it, if anything.
 struct Length {

@@ -1,4 +1,4 @@
-//! A message and a buffer at chosen places of one piece of memory.
+//! A message, or a frame, and a buffer at chosen places of one piece of memory.
 //!
 //! Where an allocation lies is chance, and what a copy takes may depend on it: on whether its stores cross the ends of
 //! the cache's lines, and on how far apart the two places are in their pages, if `rep movsb` makes it.
@@ -7,7 +7,7 @@ use std::ops::Range;
 
 const PAGE: usize = 4_096;
 
-/// Where in a page the data begins.
+/// Where in a page the data begins: the second byte of what is copied from, and of what is copied to.
 pub struct Place {
     pub text: &'static str,
     /// The message's.
