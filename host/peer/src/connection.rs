@@ -64,7 +64,7 @@ impl Incoming {
             Err(error) if error.is_timeout() => Ok(None),
             Err(frames::Error::Io(error)) => Err(failed(error)),
             Err(frames::Error::Cut) => Err(Error::ClosedMidway),
-            Err(error) => Err(Error::Frame(error)),
+            Err(frames::Error::Refused(refusal)) => Err(Error::Frame(refusal)),
         }
     }
 
@@ -268,8 +268,9 @@ mod tests {
         });
         beat_and_end(&outgoing);
         let received = reading.join().expect("the relay").expect("the end");
-        let mut frame = Vec::new();
-        frames::append(&codec::encode(&DATA).expect("a message"), &mut frame).expect("a frame");
+        // The length counts two types, the frame's and the message's.
+        let [high, low] = (MESSAGE_SIZE as u16 + 2).to_be_bytes();
+        let frame = [&[high, low, 1, 11][..], &[255; MESSAGE_SIZE]].concat();
         let only_data = received.chunks(frame.len()).all(|part| frame.starts_with(part));
         assert!(only_data, "another message within {} bytes", received.len());
     }

@@ -31,7 +31,7 @@ pub enum Error {
     /// Likewise, but within a frame or with bytes unread, as a relay does that is stopped.
     ClosedMidway,
     Connection(io::Error),
-    Frame(frames::Error),
+    Frame(frames::Refusal),
     /// A frame that holds no message of the protocol. An empty one has no type.
     Malformed {
         kind: Option<u8>,
@@ -131,7 +131,7 @@ impl fmt::Display for Error {
             Self::NoAnswer => write!(to, "the relay hasn't answered in time"),
             Self::Closed | Self::ClosedMidway => write!(to, "the relay stopped or closed the connection"),
             Self::Connection(error) => write!(to, "the connection to the relay failed: {error}"),
-            Self::Frame(error) => write!(to, "the relay's bytes are malformed: {error}"),
+            Self::Frame(refusal) => write!(to, "the relay's bytes are malformed: {refusal}"),
             Self::Malformed { kind, length } => write_malformed(*kind, *length, to),
             Self::OutOfRange => write!(to, "a message to send has a field outside its range"),
             Self::LeaseRefused => write!(to, "{LEASE_REFUSED}"),

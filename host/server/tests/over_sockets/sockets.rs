@@ -1,5 +1,6 @@
 //! The relay over real sockets: what peers do well, badly and not at all.
 
+use std::net::Shutdown;
 use std::time::Duration;
 
 use codec::{encode, Message};
@@ -74,6 +75,38 @@ fn garbage_closes_its_connection_and_no_other() {
         relay.await_line(reason);
     }
     assert!(neighbour.lease() < 1 << 26);
+}
+
+#[test]
+fn garbage_is_told_by_the_byte_that_shows_it() {
+    let relay = Relay::start();
+    let garbage: [(&[u8], &str); 3] = [
+        (&[0, 0], "closed, a frame of length 0"),
+        (&[0, 2, 0], "closed, a frame of type 0, not 1"),
+        (&[0, 2, 1, 13, 255, 255, 9], "closed, a frame of type 9, not 1"),
+    ];
+    for (number, (bytes, reason)) in garbage.into_iter().enumerate() {
+        let mut peer = relay.peer(number);
+        for byte in bytes {
+            peer.send_bytes(&[*byte]);
+            std::thread::sleep(Duration::from_millis(20));
+        }
+        assert!(peer.is_closed(), "{reason}");
+        relay.await_line(&format!("partner {number}, connection {}: {reason}", 8 * number));
+    }
+}
+
+#[test]
+fn a_stream_that_ends_within_a_frame_is_told() {
+    let relay = Relay::start();
+    for (number, bytes) in [&[0][..], &[0, 3], &[0, 3, 1], &[0, 3, 1, 2]].into_iter().enumerate() {
+        let mut peer = relay.peer(number);
+        peer.send_bytes(bytes);
+        peer.stream.shutdown(Shutdown::Write).expect("an end");
+        assert!(peer.is_closed());
+        let place = format!("partner {number}, connection {}", 8 * number);
+        relay.await_line(&format!("{place}: closed, the stream ended within a frame"));
+    }
 }
 
 #[test]
