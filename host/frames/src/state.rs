@@ -20,7 +20,7 @@ pub struct Step {
 }
 
 impl State {
-    /// Reads on in a chunk, into the message buffer.
+    /// Reads on in a chunk, into a message buffer that holds the longest message: so the engine finds none too short.
     #[inline]
     pub fn step(&mut self, message: &mut [u8], chunk: &[u8]) -> Result<Step, Refusal> {
         let before = *self;
