@@ -38,12 +38,12 @@ typedef struct {
 /* Reads on in a stream. The reader's state is two numbers, 0 and 0 at the stream's start, and the bytes of a message that
  * isn't complete, which stay in the buffer: hand all three to the next step as this one left them.
  *
- * A step takes bytes up to the end of one frame at most, so whatever it left of the chunk is offered again, until the step
- * has taken all of it and has no message.
+ * A step takes bytes up to the end of one frame at most, so after a message what is left of the chunk is offered again, until
+ * a step gives no message.
  *
  *   SVSC_FRAME_SHORT    the buffer holds fewer than 65,534 bytes: nothing is taken, and the state stays
- *   SVSC_FRAME_REFUSED  the last byte taken shows that this is no stream of frames. It stays refused: the state is 0 and 1, and
- *                       with it, or with numbers that no step gives, nothing is taken any more
+ *   SVSC_FRAME_REFUSED  the last byte taken shows that this is no stream of frames, or the state is one that no step gives and
+ *                       nothing is taken. It stays refused: the state is 0 and 1 from now on, and nothing is taken any more
  *
  * No byte of the buffer changes in a step that answers another number than SVSC_FRAME_DONE. */
 svsc_frame_step svsc_frame_read(uint32_t taken, uint32_t size, uint8_t *message, size_t message_length, const uint8_t *chunk,

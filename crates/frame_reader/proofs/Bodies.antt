@@ -1,8 +1,8 @@
 -- The two ways out of what reads a message, and that they are what a step does. Assumes nothing.
 use Prim.Native.Nat.{ℕ, suc, _+_, _-_, _*_, _/_, _%_, _^_, _≤_, _<_}
-use mathlib.Core.Path.{_≡_, refl, sym, ap, _∙_}
+use mathlib.Core.Path.{_≡_, ap, _∙_}
 use mathlib.Core.Logic.{_≢_, ⊎-elim}
-use mathlib.Core.List.{List, [], _∷_, _++_}
+use mathlib.Core.List.{List, _++_}
 use native.Mathlib.Omega.{arith}
 use lib.ListN.{length, take, drop, length-append, length-take, length-drop, take-append-drop}
 use lib.Seq.{length-take-le, take-append-add}
@@ -10,9 +10,9 @@ use borrow.Author.Tests.{lt-ltb, le-ltb}
 use Rattle.octets.specs.Octets.{bigEndian, part, put}
 use Rattle.octets.proofs.Tests.{le-or-lt}
 use Rattle.octets.proofs.Parts.{to-the-end}
-use Rattle.octets.proofs.Stores.{length-put, put-splice, put-behind}
-use Rattle.framing.specs.Frames.{messageLimit, frameLength, frameType, begun, whole, startOf}
-use Rattle.framing.specs.Reading.{state, fresh, Step, stateAfter, held, advance}
+use Rattle.octets.proofs.Stores.{put-splice, put-behind}
+use Rattle.framing.specs.Frames.{messageLimit, startOf}
+use Rattle.framing.specs.Reading.{state, fresh, stateAfter, held, advance}
 use Rattle.framing.proofs.Starts.{two-bytes, start-partly, start-entire}
 use Rattle.frame_reader.specs.Bodies.{readBody}
 

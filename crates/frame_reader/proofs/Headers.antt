@@ -1,7 +1,7 @@
 -- The ways out of what reads a header, over plain values. Assumes nothing.
-use Prim.Native.Nat.{ℕ, suc, _+_, _-_, _*_, _≤_, _<_}
-use mathlib.Core.Path.{_≡_, refl, sym, ap, _∙_}
-use mathlib.Core.Logic.{_≢_, ⊎-elim}
+use Prim.Native.Nat.{ℕ, suc, _+_, _-_, _*_, _≤_}
+use mathlib.Core.Path.{_≡_, refl}
+use mathlib.Core.Logic.{_≢_}
 use mathlib.Core.Bool.{Bool, true, false}
 use mathlib.Core.List.{List, [], _∷_}
 use native.Mathlib.Omega.{arith}
@@ -10,7 +10,6 @@ use lib.ListN.{length, take, drop, getD}
 use lib.Seq.{take-all}
 use borrow.Author.Tests.{eq-eqb, ne-eqb}
 use Rattle.octets.specs.Octets.{if_then_else_}
-use Rattle.octets.proofs.Tests.{by-test}
 use Rattle.framing.specs.Frames.{frameType}
 use Rattle.frame_reader.specs.declared.Header.{Header}
 use Rattle.frame_reader.specs.Headers.{reached, refusedByte, behind, readType, readLow, readHigh, readHeader}

@@ -1,22 +1,22 @@
 -- What a header's bytes make of the stream: the state that they reach has them, or they are refused. Assumes nothing.
-use Prim.Native.Nat.{ℕ, zero, suc, _+_, _-_, _*_, _/_, _%_, _^_, _≤_, _<_}
-use mathlib.Core.Path.{_≡_, refl, sym, ap, _∙_}
-use mathlib.Core.Logic.{_≢_, _⊎_, inl, inr, ⊎-elim}
-use mathlib.Core.Bool.{Bool, true, false}
+use Prim.Native.Nat.{ℕ, zero, suc, _+_, _*_, _/_, _%_, _^_, _≤_, _<_}
+use mathlib.Core.Path.{_≡_, refl, _∙_}
+use mathlib.Core.Logic.{_⊎_, inl, inr, ⊎-elim}
+use mathlib.Core.Bool.{true, false}
 use mathlib.Core.List.{List, [], _∷_, _++_}
 use native.Mathlib.Omega.{arith}
 use lib.Dec.{eqb}
 use lib.Pow.{areBytes}
-use lib.ListN.{length, take, drop}
-use borrow.Author.Tests.{eqb-true, eqb-false, eq-eqb, ne-eqb}
-use Rattle.octets.specs.Octets.{if_then_else_, bigEndian}
+use lib.ListN.{length, drop}
+use borrow.Author.Tests.{eqb-true, eqb-false}
+use Rattle.octets.specs.Octets.{bigEndian}
 use Rattle.octets.proofs.Tests.{by-test, head-byte, tail-bytes}
 use Rattle.framing.specs.Frames.{frameType, refused, startOf}
 use Rattle.framing.specs.Reading.{state, held}
 use Rattle.framing.proofs.Starts.{start-empty, start-untyped, two-bytes, high-is, low-is}
 use Rattle.framing.proofs.States.{Valid, at-start, after-one, after-two}
 use Rattle.frame_reader.specs.declared.Header.{Header}
-use Rattle.frame_reader.specs.Headers.{reached, refusedByte, behind, readType, readLow, readHigh, readHeader}
+use Rattle.frame_reader.specs.Headers.{behind, readType, readLow, readHigh, readHeader}
 use Rattle.frame_reader.proofs.Headers.{from-header}
 
 module _ (buffer : List ℕ) where

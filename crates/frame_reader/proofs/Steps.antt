@@ -1,15 +1,15 @@
 -- The ways out of a step, over plain values. Assumes nothing.
-use Prim.Native.Nat.{ℕ, suc, _+_, _-_, _*_, _≤_, _<_}
-use mathlib.Core.Path.{_≡_, refl, sym, ap, _∙_}
+use Prim.Native.Nat.{ℕ, suc, _+_, _-_, _≤_, _<_}
+use mathlib.Core.Path.{_≡_, sym, _∙_}
 use mathlib.Core.Logic.{⊎-elim}
 use mathlib.Core.Bool.{true, false, true≢false}
-use mathlib.Core.List.{List, [], _∷_, _++_, append-nil}
+use mathlib.Core.List.{List, [], _++_, append-nil}
 use native.Mathlib.Omega.{arith}
 use lib.Pow.{areBytes}
 use lib.ListN.{length, drop, drop-of-length-le}
 use Rattle.octets.proofs.Stores.{put-none}
-use Rattle.framing.specs.Frames.{messageLimit, refused, begun, startOf}
-use Rattle.framing.specs.Reading.{state, refusal, isValid, stateAfter, held, advance, step}
+use Rattle.framing.specs.Frames.{messageLimit, refused, startOf}
+use Rattle.framing.specs.Reading.{state, refusal, isValid, held, step}
 use Rattle.framing.proofs.States.{Valid, at-start, after-one, after-two, valid-only, held-begins}
 use Rattle.framing.proofs.Reading.{step-valid}
 use Rattle.frame_reader.specs.declared.Header.{Header}

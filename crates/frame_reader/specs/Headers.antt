@@ -1,5 +1,5 @@
 -- What a reader takes of a chunk before the message: the bytes of a header that are missing. Not a part of the rules: what `step` does, byte by byte.
-use Prim.Native.Nat.{ℕ, suc, _+_, _*_}
+use Prim.Native.Nat.{ℕ, _+_, _*_}
 use mathlib.Core.Bool.{true, false}
 use mathlib.Core.List.{List, [], _∷_}
 use lib.Dec.{eqb}

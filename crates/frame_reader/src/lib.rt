@@ -3,7 +3,7 @@ ghost use mathlib.Core.Path.{_≡_};
 ghost use Prim.Native.Nat.{_<_};
 ghost use Rattle.framing.specs.Reading.{state, isValid, step};
 ghost use Rattle.frame_reader.specs.Answers.{stepOf};
-ghost use Rattle.frame_reader.specs.Headers.{behind, readType, readLow, readHigh, readHeader};
+ghost use Rattle.frame_reader.specs.Headers.{readType, readLow, readHigh, readHeader};
 ghost use Rattle.frame_reader.specs.Bodies.{BodyAhead, readBody};
 
 // What a step answers: the number, whether a message stands in the buffer, bytes of the chunk taken, the message's length, and the state.
@@ -98,8 +98,8 @@ fn read_low(size: u32, chunk: &[u8]) -> Header
             size: size,
         };
     }
-    let whole = size + chunk[0] as u32;
-    if whole == 0 {
+    let length = size + chunk[0] as u32;
+    if length == 0 {
         return Header {
             refused: true,
             used: 1,
@@ -107,7 +107,7 @@ fn read_low(size: u32, chunk: &[u8]) -> Header
             size: 1,
         };
     }
-    let rest = read_type(whole, &chunk[1..]);
+    let rest = read_type(length, &chunk[1..]);
     Header {
         refused: rest.refused,
         used: 1 + rest.used,
@@ -170,11 +170,11 @@ fn read_body(taken: u32, size: u32, used: usize, message: &mut [u8], chunk: &[u8
     let at = taken as usize - framing::HEADER_BYTES;
     let there = chunk.len() - used;
     if there < left {
-        octet_copies::copy_pieces(message, at, &chunk[used..chunk.len()]);
+        octet_copies::copy_at_once(message, at, &chunk[used..chunk.len()]);
         return answer(0, chunk.len(), taken + there as u32, size);
     }
     let end = used + left;
-    octet_copies::copy_pieces(message, at, &chunk[used..end]);
+    octet_copies::copy_at_once(message, at, &chunk[used..end]);
     FrameStep {
         number: 0,
         complete: 1,

@@ -1,5 +1,5 @@
 -- Reading in chunks: whatever the cuts, the messages and the end are those of the whole stream. Assumes nothing.
-use Prim.Native.Nat.{ℕ, zero, suc, _+_, _-_, _*_, _/_, _%_, _^_, _≤_, _<_}
+use Prim.Native.Nat.{ℕ, zero, suc, _+_, _-_, _/_, _%_, _^_, _≤_, _<_}
 use mathlib.Core.Path.{_≡_, refl, sym, ap, ap₂, subst, _∙_}
 use mathlib.Core.Logic.{_≢_, _⊎_, _↔_, inl, inr, ⊎-elim}
 use mathlib.Core.Bool.{Bool, true, false, true≢false, _&&_}
@@ -15,11 +15,11 @@ use Rattle.octets.specs.Octets.{if_then_else_, byteAt, bigEndian, part, put}
 use Rattle.octets.proofs.Tests.{bytes-drop, bytes-part}
 use Rattle.octets.proofs.Stores.{length-put, part-put}
 use Rattle.framing.specs.Frames.{messageLimit, frameLength, frameType, Start, begun, refused, whole, startOf}
-use Rattle.framing.specs.Streams.{End, within, refusedAfter, Parsed, after, parseFrom, parse}
+use Rattle.framing.specs.Streams.{within, refusedAfter, Parsed, after, parseFrom, parse}
 use Rattle.framing.specs.Reading.{State, state, fresh, refusal, isValid, stateAfter, held, Step, advance, refusing, step, Reader, starting, stepped, offer, readChunks, endOf, result}
 use Rattle.framing.specs.ReadingClaims.{LedTo}
 use Rattle.framing.proofs.Starts.{never, settled, more-refused, more-whole, whole-by}
-use Rattle.framing.proofs.States.{Valid, at-start, after-one, after-two, valid-taken, valid-only, Begins, held-begins, Kept, begun-kept}
+use Rattle.framing.proofs.States.{Valid, at-start, after-one, after-two, valid-taken, valid-only, held-begins, Kept, begun-kept}
 use Rattle.framing.proofs.Streams.{parse-begun, parse-refused, parse-whole, first-byte, second-byte}
 
 -- ---- a step

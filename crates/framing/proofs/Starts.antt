@@ -1,19 +1,18 @@
 -- The start of a stream: what the bytes there can be, and that more bytes don't change what is settled. Assumes nothing.
-use Prim.Native.Nat.{ℕ, zero, suc, _+_, _-_, _*_, _/_, _%_, _^_, _≤_, _<_}
+use Prim.Native.Nat.{ℕ, suc, _+_, _-_, _*_, _/_, _%_, _^_, _≤_, _<_}
 use mathlib.Core.Path.{_≡_, refl, sym, ap, _∙_}
 use mathlib.Core.Logic.{_≢_, _⊎_, inl, inr, ⊎-elim}
-use mathlib.Core.Bool.{Bool, true, false}
 use mathlib.Core.List.{List, [], _∷_, _++_}
 use native.Mathlib.Omega.{arith}
 use lib.Dec.{eqb}
-use lib.ListN.{length, take, drop, length-append, length-take, take-append-drop}
+use lib.ListN.{length, take, drop, length-append, take-append-drop}
 use lib.Seq.{take-append-le, take-at, length-take-le, drop-drop}
 use borrow.Author.Tests.{eqb-true, eqb-false, eq-eqb, ne-eqb, lt-ltb, le-ltb}
 use Rattle.octets.specs.Octets.{byteAt, number, numberFrom, bigEndian}
 use Rattle.octets.proofs.Tests.{by-test, le-or-lt}
-use Rattle.octets.proofs.Numbers.{number-bigEndian, bigEndian-number}
+use Rattle.octets.proofs.Numbers.{number-bigEndian}
 use Rattle.framing.specs.StreamClaims.{sizeOf, RefusedBy}
-use Rattle.framing.specs.Frames.{messageLimit, frameOf, frameLength, frameType, Start, begun, refused, whole, startOfMessage, startOfType, startOf}
+use Rattle.framing.specs.Frames.{messageLimit, frameOf, frameLength, frameType, begun, refused, whole, startOfMessage, startOfType, startOf}
 
 -- ---- the forms that bytes at the start have
 

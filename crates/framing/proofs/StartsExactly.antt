@@ -1,18 +1,30 @@
--- What stands at the start of a byte string, exactly. Assumes nothing.
-use Prim.Native.Nat.{ℕ, suc, _+_, _-_, _*_, _≤_, _<_}
+-- A frame in numbers, and what stands at the start of a byte string, exactly. Assumes nothing.
+use Prim.Native.Nat.{ℕ, suc, _+_, _-_, _*_, _/_, _%_, _^_, _≤_, _<_}
 use mathlib.Core.Path.{_≡_, refl, sym, ap, _∙_}
-use mathlib.Core.Logic.{_≢_, ⊎-elim}
+use mathlib.Core.Logic.{⊎-elim}
 use mathlib.Core.Bool.{true}
 use mathlib.Core.List.{List, [], _∷_, _++_, append-nil}
 use native.Mathlib.Omega.{arith}
 use lib.Pow.{areBytes}
 use lib.ListN.{length, drop, replicate, length-append, length-replicate}
-use borrow.Author.Tests.{le-leb}
+use borrow.Author.Tests.{leb-true, le-leb}
 use Rattle.octets.specs.Octets.{byteAt, bigEndian}
-use Rattle.framing.specs.Frames.{messageLimit, frameOf, frameLength, frameType, fits, Start, begun, refused, whole, startOf}
-use Rattle.framing.specs.StreamClaims.{sizeOf, RefusedBy, Begins, Starts}
+use Rattle.framing.specs.Frames.{messageLimit, frameOf, frameLength, frameType, begun, refused, whole, startOf}
+use Rattle.framing.specs.StreamClaims.{Layout, RefusedBy, Begins, Starts}
 use Rattle.framing.proofs.Starts.{Form, none, one, empty, two, untyped, partly, entire, form, start-empty, start-untyped, start-entire, settled, refused-by, whole-by, frame-start, high-is, low-is, never}
 use Rattle.framing.proofs.Streams.{length-frame, first-byte, second-byte, frame-read, whole-fits}
+
+-- a frame in numbers
+pub layout : (message : List ℕ) → Layout message
+unfolding frameOf bigEndian
+layout message =
+    record { fitting = (leb-true (length message) 65534, le-leb (length message) 65534); bytes = in-numbers }
+  where
+    in-numbers : length message ≤ 65534 → frameOf message ≡ ((length message + 1) / 256) ∷ ((length message + 1) % 256) ∷ 1 ∷ message
+    in-numbers l =
+        let high : suc (length message) / 256 ^ 1 % 256 ≡ (length message + 1) / 256 = omega arith in
+        let low : suc (length message) / 256 ^ 0 % 256 ≡ (length message + 1) % 256 = omega arith in
+        rw (high, low)
 
 -- a length of 0, or another type, is refused
 refuses : (bytes : List ℕ) (k : ℕ) → RefusedBy bytes k → startOf bytes ≡ refused k

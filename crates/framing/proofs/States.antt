@@ -1,19 +1,18 @@
 -- The states of a reader: which are valid, and that state and buffer have what was taken of a frame. Assumes nothing.
-use Prim.Native.Nat.{ℕ, zero, suc, _+_, _-_, _*_, _/_, _%_, _^_, _≤_, _<_}
-use mathlib.Core.Path.{_≡_, refl, sym, ap, _∙_}
-use mathlib.Core.Logic.{_≢_, _⊎_, inl, inr, ⊎-elim}
-use mathlib.Core.Bool.{Bool, true, false, true≢false, _&&_, _||_}
-use mathlib.Core.List.{List, [], _∷_, _++_}
+use Prim.Native.Nat.{ℕ, zero, suc, _+_, _*_, _/_, _%_, _^_, _≤_, _<_}
+use mathlib.Core.Path.{_≡_, refl, sym, ap}
+use mathlib.Core.Bool.{true, false, true≢false, _&&_}
+use mathlib.Core.List.{List, _∷_}
 use native.Mathlib.Omega.{arith}
 use lib.Dec.{eqb, ltb, leb}
-use lib.ListN.{length, take, drop, length-append, length-take, take-append-drop}
-use lib.Seq.{take-append-le, take-at, length-take-le}
-use borrow.Author.Tests.{eqb-true, eqb-false, eq-eqb, ne-eqb, lt-ltb, le-ltb, ltb-true, leb-true, le-leb}
+use lib.ListN.{length, take, drop}
+use lib.Seq.{length-take-le}
+use borrow.Author.Tests.{eqb-true, eq-eqb, ne-eqb, lt-ltb, ltb-true, leb-true, le-leb}
 use Rattle.octets.specs.Octets.{byteAt, bigEndian, part, put}
 use Rattle.octets.proofs.Tests.{both-left, both-right, either}
-use Rattle.octets.proofs.Stores.{part-put, put-none}
-use Rattle.framing.specs.Frames.{messageLimit, frameType, Start, begun, refused, whole, startOf}
-use Rattle.framing.specs.Reading.{State, state, fresh, isValid, stateAfter, held}
+use Rattle.octets.proofs.Stores.{part-put}
+use Rattle.framing.specs.Frames.{messageLimit, frameType, begun, startOf}
+use Rattle.framing.specs.Reading.{state, isValid, stateAfter, held}
 use Rattle.framing.proofs.Starts.{Form, none, one, empty, two, untyped, partly, entire, form, start-empty, start-two, start-untyped, start-partly, start-entire, two-bytes, high-is, low-is, never}
 
 -- ---- the forms of a valid state
@@ -23,22 +22,7 @@ pub data Valid : (taken size : ℕ) → Type 0 where
   after-one : (high : ℕ) → high < 256 → Valid 1 (high * 256)
   after-two : (more size : ℕ) → 1 ≤ size → size < 256 * 256 → more < size → Valid (suc (suc more)) size
 
--- each is taken as valid
-pub valid-taken : {taken size : ℕ} → Valid taken size → isValid (state taken size) ≡ true
-unfolding isValid
-valid-taken at-start = refl
-valid-taken (after-one high h) = rw (lt-ltb (high * 256) (256 * 256) (omega arith), eq-eqb (high * 256 % 256) 0 (omega arith))
-valid-taken (after-two more size p l m) =
-    rw (
-      ne-eqb (suc (suc more)) 0 (λ z. absurd (omega arith)),
-      ne-eqb (suc (suc more)) 1 (λ z. absurd (omega arith)),
-      le-leb 2 (suc (suc more)) (omega arith),
-      le-leb 1 size p,
-      lt-ltb size (256 * 256) l,
-      lt-ltb (suc (suc more)) (size + 2) (omega arith),
-    )
-
--- and no other
+-- a state that is taken as valid has one of them
 pub valid-only : (taken size : ℕ) → isValid (state taken size) ≡ true → Valid taken size
 unfolding isValid
 valid-only zero zero e = at-start
@@ -60,6 +44,21 @@ valid-only (suc (suc more)) size e =
     (leb-true _ _ (both-right (leb 2 (suc (suc more))) _ counted))
     (ltb-true _ _ (both-right (leb 2 (suc (suc more)) && leb 1 size) _ three))
     (omega arith)
+
+-- and each of them is
+pub valid-taken : {taken size : ℕ} → Valid taken size → isValid (state taken size) ≡ true
+unfolding isValid
+valid-taken at-start = refl
+valid-taken (after-one high h) = rw (lt-ltb (high * 256) (256 * 256) (omega arith), eq-eqb (high * 256 % 256) 0 (omega arith))
+valid-taken (after-two more size p l m) =
+    rw (
+      ne-eqb (suc (suc more)) 0 (λ z. absurd (omega arith)),
+      ne-eqb (suc (suc more)) 1 (λ z. absurd (omega arith)),
+      le-leb 2 (suc (suc more)) (omega arith),
+      le-leb 1 size p,
+      lt-ltb size (256 * 256) l,
+      lt-ltb (suc (suc more)) (size + 2) (omega arith),
+    )
 
 -- ---- what was taken of a frame, and the state and the buffer that keep it
 

@@ -1,23 +1,22 @@
 -- What a whole stream gives: what stands at each place decides, and all bytes are accounted for. Assumes nothing.
-use Prim.Native.Nat.{ℕ, zero, suc, _+_, _-_, _*_, _≤_, _<_}
-use mathlib.Core.Path.{_≡_, refl, sym, ap, ap₂, _∙_}
-use mathlib.Core.Logic.{_≢_, _↔_, inl, inr, ⊎-elim}
-use mathlib.Core.Bool.{Bool, true, false, _&&_}
-use mathlib.Core.List.{List, [], _∷_, _++_, append-assoc, append-nil}
+use Prim.Native.Nat.{ℕ, zero, suc, _+_, _≤_, _<_}
+use mathlib.Core.Path.{_≡_, refl, sym, ap, _∙_}
+use mathlib.Core.Logic.{_↔_}
+use mathlib.Core.Bool.{true}
+use mathlib.Core.List.{List, [], _∷_, _++_, append-assoc}
 use native.Mathlib.Omega.{arith}
 use native.Mathlib.Nat.{add-zero}
-use lib.Dec.{leb}
 use lib.Pow.{areBytes}
-use lib.ListN.{length, take, drop, getD, replicate, length-append, length-drop, length-replicate}
-use lib.Seq.{drop-at, take-at}
+use lib.ListN.{length, drop, length-append, length-drop}
+use lib.Seq.{drop-at}
 use borrow.Author.Tests.{le-leb, leb-true}
 use Rattle.octets.specs.Octets.{byteAt, bigEndian}
 use Rattle.octets.proofs.Tests.{both-left, both-right, bytes-drop, head-byte, tail-bytes}
 use Rattle.octets.proofs.Numbers.{length-bigEndian}
 use Rattle.framing.specs.Frames.{messageLimit, frameOf, frameLength, frameType, fits, allFit, framesOf, Start, begun, refused, whole, startOf}
-use Rattle.framing.specs.Streams.{End, within, refusedAfter, Parsed, after, parseStart, parseFrames, parseFrom, parse}
-use Rattle.framing.specs.StreamClaims.{sizeOf, RefusedBy, Begins, Starts, Ends, Accounted, StreamClaims}
-use Rattle.framing.proofs.Starts.{Form, none, one, empty, two, untyped, partly, entire, form, start-empty, start-two, start-untyped, start-partly, start-entire, settled, refused-by, Whole, whole-by, start-frame, frame-start, high-is, low-is, never}
+use Rattle.framing.specs.Streams.{End, within, refusedAfter, Parsed, after, parseStart, parseFrames, parseFrom}
+use Rattle.framing.specs.StreamClaims.{Ends, Accounted}
+use Rattle.framing.proofs.Starts.{whole-by, start-frame, frame-start}
 
 -- ---- no count of frames limits a parse
 

@@ -1,26 +1,26 @@
 -- The writer: what it answers exactly, and that what it writes is read back. Assumes nothing.
 use Prim.Native.Nat.{ℕ, _+_, _≤_, _<_}
-use mathlib.Core.Path.{_≡_, refl, sym, ap, ap₂, _∙_}
+use mathlib.Core.Path.{_≡_, refl, ap, ap₂, _∙_}
 use mathlib.Core.Logic.{⊎-elim}
-use mathlib.Core.Bool.{true, false, _&&_}
-use mathlib.Core.Option.{Option, some}
+use mathlib.Core.Bool.{true}
+use mathlib.Core.Option.{some}
 use mathlib.Core.List.{List, [], _∷_, _++_, append-nil, map, flatten}
 use native.Mathlib.Omega.{arith}
 use lib.Dec.{eqb}
 use lib.Pow.{areBytes}
-use lib.ListN.{length, take, drop}
+use lib.ListN.{length, drop}
 use lib.Seq.{take-at}
-use borrow.Author.Tests.{lt-ltb, le-ltb, le-leb, lt-leb, leb-true, eqb-true}
+use borrow.Author.Tests.{lt-ltb, le-ltb, le-leb, lt-leb, eqb-true}
 use Rattle.octets.specs.Octets.{put}
 use Rattle.octets.proofs.Tests.{le-or-lt, both-left, both-right}
 use Rattle.octets.proofs.Stores.{put-splice}
 use Rattle.svsc.specs.Messages.{Message, encode, wellFormed, decode}
-use Rattle.svsc.specs.Writing.{WriteOutcome, emit}
+use Rattle.svsc.specs.Writing.{emit}
 use Rattle.svsc.proofs.WrittenThenRead.{decode-encode}
 use Rattle.svsc.proofs.ReadThenWritten.{message-length}
-use Rattle.framing.specs.Frames.{messageLimit, frameOf, frameLength, fits, allFit, framesOf, begun, startOf}
-use Rattle.framing.specs.Streams.{within, Parsed, parse, parseFrom}
-use Rattle.framing.specs.Reading.{fresh, Reader, starting, readChunks, result}
+use Rattle.framing.specs.Frames.{messageLimit, frameOf, frameLength, allFit, framesOf, startOf}
+use Rattle.framing.specs.Streams.{within, Parsed, parse}
+use Rattle.framing.specs.Reading.{fresh, starting, readChunks, result}
 use Rattle.framing.specs.Writing.{writeFrame}
 use Rattle.framing.specs.WritingClaims.{WriteClaims, Writing, allTaken, streamOf, allWellFormed, WritingClaims}
 use Rattle.framing.proofs.Streams.{length-frame, parsed-back}

@@ -1,14 +1,21 @@
 -- What 02, Item 9, says of a stream, as statements.
-use Prim.Native.Nat.{ℕ, _+_, _*_, _≤_, _<_}
+use Prim.Native.Nat.{ℕ, _+_, _*_, _/_, _%_, _≤_, _<_}
 use mathlib.Core.Path.{_≡_}
 use mathlib.Core.Logic.{_≢_, _⊎_, _↔_}
 use mathlib.Core.Bool.{true}
-use mathlib.Core.List.{List, _++_}
+use mathlib.Core.List.{List, _∷_, _++_}
 use lib.ListN.{length}
 use lib.Pow.{areBytes}
 use Rattle.octets.specs.Octets.{byteAt}
 use Rattle.framing.specs.Frames.{frameOf, frameType, fits, allFit, framesOf, begun, refused, whole, startOf}
 use Rattle.framing.specs.Streams.{End, within, refusedAfter, Parsed, parseFrom}
+
+-- ---- a frame
+
+-- in numbers: "data-length 2, type 1, then data-length minus 1 bytes; the number counts the type byte", "most significant byte first"
+pub record Layout (message : List ℕ) : Type 0 where
+  pub fitting : (fits message ≡ true) ↔ (length message ≤ 65534)
+  pub bytes : length message ≤ 65534 → frameOf message ≡ ((length message + 1) / 256) ∷ ((length message + 1) % 256) ∷ 1 ∷ message
 
 -- ---- the start of a stream
 
@@ -51,6 +58,7 @@ pub record Accounted (at : ℕ) (bytes : List ℕ) (p : Parsed) : Type 0 where
   pub ends : Ends (at + length (framesOf (p .messages))) rest (p .end)
 
 pub record StreamClaims : Type 0 where
+  pub layout : (message : List ℕ) → Layout message
   -- what stands at the start of every byte string, exactly
   pub starts : (bytes : List ℕ) → areBytes bytes ≡ true → Starts bytes
   -- the parse of every byte string accounts for all of it, and there is no other account

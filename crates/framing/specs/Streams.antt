@@ -29,7 +29,7 @@ parseFrames zero at bytes = record { messages = []; end = within (length bytes) 
 parseFrames (suc n) at bytes =
     parseStart at bytes (λ message. parseFrames n (at + frameLength message) (drop (frameLength message) bytes)) (startOf bytes)
 
--- a frame has a byte at least, so there are no more frames than bytes
+-- a frame has three bytes at least, so there are no more frames than bytes
 unfoldable pub parseFrom : (at : ℕ) → List ℕ → Parsed
 parseFrom at bytes = parseFrames (length bytes) at bytes
 

@@ -1,5 +1,4 @@
 -- `is_valid`: test by test.
-use native.Mathlib.Omega.{arith}
 use Rattle.frame_reader.proofs.Valid.{at-start, too-large, after-one, after-two, no-length}
 use borrow.Author.Needs.{needs}
 use Rattle.frame_reader.proofs.is_valid.Statement.{statement}

@@ -1,7 +1,5 @@
 -- `read_body`: a part of what is missing, or all of it.
 use native.Mathlib.Omega.{arith}
-use mathlib.Core.Path.{sym, ap, _∙_}
-use Rattle.frame_reader.specs.Answers.{stepOf}
 use Rattle.frame_reader.proofs.Bodies.{body-partly, body-entire}
 use borrow.Author.Needs.{needs}
 use Rattle.frame_reader.proofs.read_body.Statement.{statement}
@@ -22,17 +20,17 @@ sub-at c = search needs
 sub-there : tie.Need-sub-there
 sub-there c = search needs
 
-sub-copy-pieces : tie.Need-sub-copy-pieces
-sub-copy-pieces c = search needs
+sub-copy-at-once : tie.Need-sub-copy-at-once
+sub-copy-at-once c = search needs
 
-part-copy-pieces-start : tie.Need-part-copy-pieces-start
-part-copy-pieces-start c = search needs
+part-copy-at-once-start : tie.Need-part-copy-at-once-start
+part-copy-at-once-start c = search needs
 
-part-copy-pieces-end : tie.Need-part-copy-pieces-end
-part-copy-pieces-end c = search needs
+part-copy-at-once-end : tie.Need-part-copy-at-once-end
+part-copy-at-once-end c = search needs
 
-copy-pieces-requires : tie.Need-copy-pieces-requires
-copy-pieces-requires c κs = search needs
+copy-at-once-requires : tie.Need-copy-at-once-requires
+copy-at-once-requires c κs = search needs
 
 cast-answer : tie.Need-cast-answer
 cast-answer c = search needs
@@ -47,22 +45,26 @@ same-length : tie.Need-same-length
 same-length c = search needs
 
 returns : tie.Need-returns
-returns c = rw (c .answer .ensures) (body-partly (c .before .before .before .before .before .before .before .before .before .args .taken) (c .before .before .before .before .before .before .before .before .before .args .size) (c .before .before .before .before .before .before .before .before .before .args .used) (c .before .before .before .before .before .before .before .before .before .args .message .now) (c .before .before .before .before .before .before .before .before .before .args .chunk .now) _ (omega (arith, c .before .before .before .before .before .before .if1 .taken)) (c .before .before .before .copy-pieces .ensures))
+returns c =
+    let a = c .before .before .before .before .before .before .before .before .before .args in
+    rw (c .answer .ensures)
+    (body-partly (a .taken) (a .size) (a .used) (a .message .now) (a .chunk .now) _ (omega (arith, c .before .before .before .before .before .before .if1 .taken))
+    (c .before .before .before .copy-at-once .ensures))
 
 add-end : tie.Need-add-end
 add-end c = search needs
 
-sub-copy-pieces-2 : tie.Need-sub-copy-pieces-2
-sub-copy-pieces-2 c = search needs
+sub-copy-at-once-2 : tie.Need-sub-copy-at-once-2
+sub-copy-at-once-2 c = search needs
 
-part-copy-pieces-start-2 : tie.Need-part-copy-pieces-start-2
-part-copy-pieces-start-2 c = search needs
+part-copy-at-once-start-2 : tie.Need-part-copy-at-once-start-2
+part-copy-at-once-start-2 c = search needs
 
-part-copy-pieces-end-2 : tie.Need-part-copy-pieces-end-2
-part-copy-pieces-end-2 c = search needs
+part-copy-at-once-end-2 : tie.Need-part-copy-at-once-end-2
+part-copy-at-once-end-2 c = search needs
 
-copy-pieces-requires-2 : tie.Need-copy-pieces-requires-2
-copy-pieces-requires-2 c κs = search needs
+copy-at-once-requires-2 : tie.Need-copy-at-once-requires-2
+copy-at-once-requires-2 c κs = search needs
 
 sub-t10 : tie.Need-sub-t10
 sub-t10 c = search needs
@@ -71,7 +73,10 @@ same-length-2 : tie.Need-same-length-2
 same-length-2 c = search needs
 
 returns-2 : tie.Need-returns-2
-returns-2 c = body-entire (c .before .before .before .before .before .before .before .before .args .taken) (c .before .before .before .before .before .before .before .before .args .size) (c .before .before .before .before .before .before .before .before .args .used) (c .before .before .before .before .before .before .before .before .args .message .now) (c .before .before .before .before .before .before .before .before .args .chunk .now) _ (omega (arith, c .before .before .before .before .before .if1 .left)) (c .before .before .copy-pieces2 .ensures)
+returns-2 c =
+    let a = c .before .before .before .before .before .before .before .before .args in
+    body-entire (a .taken) (a .size) (a .used) (a .message .now) (a .chunk .now) _ (omega (arith, c .before .before .before .before .before .if1 .left))
+    (c .before .before .copy-at-once2 .ensures)
 
 pub read-body-spec : {M : Type 1} → statement M
 read-body-spec =
@@ -82,20 +87,20 @@ read-body-spec =
     cast-left
     sub-at
     sub-there
-    sub-copy-pieces
-    part-copy-pieces-start
-    part-copy-pieces-end
-    copy-pieces-requires
+    sub-copy-at-once
+    part-copy-at-once-start
+    part-copy-at-once-end
+    copy-at-once-requires
     cast-answer
     add-answer
     answer-requires
     same-length
     returns
     add-end
-    sub-copy-pieces-2
-    part-copy-pieces-start-2
-    part-copy-pieces-end-2
-    copy-pieces-requires-2
+    sub-copy-at-once-2
+    part-copy-at-once-start-2
+    part-copy-at-once-end-2
+    copy-at-once-requires-2
     sub-t10
     same-length-2
     returns-2)

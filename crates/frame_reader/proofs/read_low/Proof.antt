@@ -9,14 +9,14 @@ use Rattle.frame_reader.proofs.read_low.Tie as tie
 returns : tie.Need-returns
 returns c = low-none (c .before .before .args .size) (c .before .before .args .chunk .now) (c .if1 .taken)
 
-shared-slice-read-whole : tie.Need-shared-slice-read-whole
-shared-slice-read-whole c = search needs
+shared-slice-read-length : tie.Need-shared-slice-read-length
+shared-slice-read-length c = search needs
 
-cast-whole : tie.Need-cast-whole
-cast-whole c = omega (arith, c .shared-slice-known2 .given 0)
+cast-length : tie.Need-cast-length
+cast-length c = omega (arith, c .shared-slice-known2 .given 0)
 
-add-whole : tie.Need-add-whole
-add-whole c = omega (arith, c .shared-slice-known2 .given 0, c .before .before .before .pre)
+add-length : tie.Need-add-length
+add-length c = omega (arith, c .shared-slice-known2 .given 0, c .before .before .before .pre)
 
 returns-2 : tie.Need-returns-2
 returns-2 c = low-zero (c .before .before .before .before .args .size) (c .before .before .before .before .args .chunk .now) (c .before .before .if1 .left) (c .if2 .taken)
@@ -46,9 +46,9 @@ read-low-spec =
     tie.close
     (tie.spec
     returns
-    shared-slice-read-whole
-    cast-whole
-    add-whole
+    shared-slice-read-length
+    cast-length
+    add-length
     returns-2
     sub-read-type
     part-read-type-start

@@ -29,8 +29,8 @@ slice-aggregate-store c = search needs
 store-requires : tie.Need-store-requires
 store-requires c κs = search needs
 
-copy-pieces-requires : tie.Need-copy-pieces-requires
-copy-pieces-requires c κs = search needs
+copy-at-once-requires : tie.Need-copy-at-once-requires
+copy-at-once-requires c κs = search needs
 
 cast-t15 : tie.Need-cast-t15
 cast-t15 c = search needs
@@ -42,7 +42,7 @@ returns-3 : tie.Need-returns-3
 returns-3 c =
     let a = c .before .before .before .before .before .before .before .before .before .before .before .before .before .before .args in
     frame-stored (a .message .now) (a .frame .now) _ _ _ _ (omega (arith, c .before .before .before .before .before .before .before .before .before .before .before .if1 .left)) (omega (arith, c .before .before .before .before .before .before .before .before .before .before .if2 .left))
-    (c .before .before .before .before .before .before .before .before .before .header .ensures) (c .before .before .before .before .before .before .store .ensures) (c .before .before .copy-pieces .ensures) refl
+    (c .before .before .before .before .before .before .before .before .before .header .ensures) (c .before .before .before .before .before .before .store .ensures) (c .before .before .copy-at-once .ensures) refl
 
 pub svsc-frame-write-spec : {M : Type 1} → statement M
 svsc-frame-write-spec =
@@ -54,7 +54,7 @@ svsc-frame-write-spec =
     header-requires
     slice-aggregate-store
     store-requires
-    copy-pieces-requires
+    copy-at-once-requires
     cast-t15
     same-length
     returns-3)

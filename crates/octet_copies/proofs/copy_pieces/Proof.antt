@@ -22,23 +22,23 @@ loop-holds c = (omega arith, sym (put-none _ _), refl)
 sub-loop : tie.Need-sub-loop Inv-loop μ-loop
 sub-loop c = c .loop .inv .0
 
-add-copy-piece : tie.Need-add-copy-piece Inv-loop μ-loop
-add-copy-piece c = omega arith
+add-copy-at-once : tie.Need-add-copy-at-once Inv-loop μ-loop
+add-copy-at-once c = omega arith
 
-add-copy-piece-2 : tie.Need-add-copy-piece-2 Inv-loop μ-loop
-add-copy-piece-2 c = omega arith
+add-copy-at-once-2 : tie.Need-add-copy-at-once-2 Inv-loop μ-loop
+add-copy-at-once-2 c = omega arith
 
-sub-copy-piece : tie.Need-sub-copy-piece Inv-loop μ-loop
-sub-copy-piece c = omega arith
+sub-copy-at-once : tie.Need-sub-copy-at-once Inv-loop μ-loop
+sub-copy-at-once c = omega arith
 
-part-copy-piece-start : tie.Need-part-copy-piece-start Inv-loop μ-loop
-part-copy-piece-start c = omega arith
+part-copy-at-once-start : tie.Need-part-copy-at-once-start Inv-loop μ-loop
+part-copy-at-once-start c = omega arith
 
-part-copy-piece-end : tie.Need-part-copy-piece-end Inv-loop μ-loop
-part-copy-piece-end c = omega arith
+part-copy-at-once-end : tie.Need-part-copy-at-once-end Inv-loop μ-loop
+part-copy-at-once-end c = omega arith
 
-copy-piece-requires : tie.Need-copy-piece-requires Inv-loop μ-loop
-copy-piece-requires c κs =
+copy-at-once-requires : tie.Need-copy-at-once-requires Inv-loop μ-loop
+copy-at-once-requires c κs =
     let s = c .before .before .before .before .before .before in
     let l = c .before .before .before .loop in
     let n = l .i + pieceSize - l .i in
@@ -55,36 +55,36 @@ loop-again c =
     let s = c .before .before .before .before .before .before .before .before .before in
     let l = c .before .before .before .before .before .before .loop in
     let size : l .i + pieceSize - l .i ≡ pieceSize = omega arith in
-    let made = c .before .before .copy-piece .ensures in
+    let made = c .before .before .copy-at-once .ensures in
     (omega arith, next-piece (s .args .buffer .now) _ _ (s .args .bytes .now) (s .args .at) (l .i) pieceSize (l .inv .0) (l .inv .1) (rw size at made), rw made (length-put _ _ _) ∙ l .inv .2)
 
-add-copy-piece-3 : tie.Need-add-copy-piece-3 Inv-loop μ-loop
-add-copy-piece-3 c = omega arith
+add-copy-at-once-3 : tie.Need-add-copy-at-once-3 Inv-loop μ-loop
+add-copy-at-once-3 c = omega arith
 
-sub-copy-piece-2 : tie.Need-sub-copy-piece-2 Inv-loop μ-loop
-sub-copy-piece-2 c = c .before .before .loop .inv .0
+sub-copy-at-once-2 : tie.Need-sub-copy-at-once-2 Inv-loop μ-loop
+sub-copy-at-once-2 c = c .before .before .loop .inv .0
 
-part-copy-piece-start-2 : tie.Need-part-copy-piece-start-2 Inv-loop μ-loop
-part-copy-piece-start-2 c = omega arith
+part-copy-at-once-start-2 : tie.Need-part-copy-at-once-start-2 Inv-loop μ-loop
+part-copy-at-once-start-2 c = omega arith
 
-part-copy-piece-end-2 : tie.Need-part-copy-piece-end-2 Inv-loop μ-loop
-part-copy-piece-end-2 c = omega arith
+part-copy-at-once-end-2 : tie.Need-part-copy-at-once-end-2 Inv-loop μ-loop
+part-copy-at-once-end-2 c = omega arith
 
-copy-piece-requires-2 : tie.Need-copy-piece-requires-2 Inv-loop μ-loop
-copy-piece-requires-2 c κs =
+copy-at-once-requires-2 : tie.Need-copy-at-once-requires-2 Inv-loop μ-loop
+copy-at-once-requires-2 c κs =
     let s = c .before .before .before .before .before .before in
     let l = c .before .before .before .loop in
     let n = length (s .args .bytes .now) - l .i in
     (omega (arith, piece-length (s .args .bytes .now) (l .i) n), omega (arith, piece-ends (s .args .bytes .now) (l .i) n (l .inv .0), s .pre, l .inv .2))
 
 same-length : tie.Need-same-length Inv-loop μ-loop
-same-length c = rw (c .before .before .copy-piece2 .ensures) (length-put _ _ _) ∙ c .before .before .before .before .before .before .loop .inv .2
+same-length c = rw (c .before .before .copy-at-once2 .ensures) (length-put _ _ _) ∙ c .before .before .before .before .before .before .loop .inv .2
 
 returns : tie.Need-returns Inv-loop μ-loop
 returns c =
     let s = c .before .before .before .before .before .before .before .before .before in
     let l = c .before .before .before .before .before .before .loop in
-    last-piece (s .args .buffer .now) _ _ (s .args .bytes .now) (s .args .at) (l .i) (l .inv .0) (l .inv .1) (c .before .before .copy-piece2 .ensures)
+    last-piece (s .args .buffer .now) _ _ (s .args .bytes .now) (s .args .at) (l .i) (l .inv .0) (l .inv .1) (c .before .before .copy-at-once2 .ensures)
 
 pub copy-pieces-spec : {M : Type 1} → statement M
 copy-pieces-spec =
@@ -94,19 +94,19 @@ copy-pieces-spec =
     μ-loop
     loop-holds
     sub-loop
-    add-copy-piece
-    add-copy-piece-2
-    sub-copy-piece
-    part-copy-piece-start
-    part-copy-piece-end
-    copy-piece-requires
+    add-copy-at-once
+    add-copy-at-once-2
+    sub-copy-at-once
+    part-copy-at-once-start
+    part-copy-at-once-end
+    copy-at-once-requires
     add-i
     loop-less
     loop-again
-    add-copy-piece-3
-    sub-copy-piece-2
-    part-copy-piece-start-2
-    part-copy-piece-end-2
-    copy-piece-requires-2
+    add-copy-at-once-3
+    sub-copy-at-once-2
+    part-copy-at-once-start-2
+    part-copy-at-once-end-2
+    copy-at-once-requires-2
     same-length
     returns)

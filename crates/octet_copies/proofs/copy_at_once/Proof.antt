@@ -1,11 +1,11 @@
--- `copy_piece`: by way of the array.
+-- `copy_at_once`: by way of the array.
 use native.Mathlib.Omega.{arith}
 use Prim.Native.Nat.{_-_}
 use lib.ListN.{length, length-take}
 use Rattle.octet_copies.proofs.Pieces.{by-array}
 use borrow.Author.Needs.{needs}
-use Rattle.octet_copies.proofs.copy_piece.Statement.{statement}
-use Rattle.octet_copies.proofs.copy_piece.Tie as tie
+use Rattle.octet_copies.proofs.copy_at_once.Statement.{statement}
+use Rattle.octet_copies.proofs.copy_at_once.Tie as tie
 
 slice-aggregate-store : tie.Need-slice-aggregate-store
 slice-aggregate-store c = search needs
@@ -25,7 +25,7 @@ part-store-end c = search needs
 store-requires-2 : tie.Need-store-requires-2
 store-requires-2 c κs =
     let s = c .before .before .before .before .before .before .before .before in
-    omega (arith, length-take (length (s .args .piece .now) - 0) (c .before .before .before .before .store .last .0), s .pre .1)
+    omega (arith, length-take (length (s .args .bytes .now) - 0) (c .before .before .before .before .store .last .0), s .pre .1)
 
 same-length : tie.Need-same-length
 same-length c = search needs
@@ -33,10 +33,10 @@ same-length c = search needs
 returns : tie.Need-returns
 returns c =
     let s = c .before .before .before .before .before .before .before .before .before .before .before in
-    by-array _ _ (s .args .buffer .now) _ (s .args .piece .now) (s .args .at) (s .pre .0) (c .before .before .before .before .before .before .before .store .ensures) (c .before .before .store2 .ensures)
+    by-array _ _ (s .args .buffer .now) _ (s .args .bytes .now) (s .args .at) (s .pre .0) (c .before .before .before .before .before .before .before .store .ensures) (c .before .before .store2 .ensures)
 
-pub copy-piece-spec : {M : Type 1} → statement M
-copy-piece-spec =
+pub copy-at-once-spec : {M : Type 1} → statement M
+copy-at-once-spec =
     tie.close
     (tie.spec
     slice-aggregate-store
