@@ -12,10 +12,10 @@ use Rattle.framing.specs.Frames.{messageLimit, refused, startOf}
 use Rattle.framing.specs.Reading.{state, refusal, isValid, held, step}
 use Rattle.framing.proofs.States.{Valid, at-start, after-one, after-two, valid-only, held-begins}
 use Rattle.framing.proofs.Reading.{step-valid}
-use Rattle.frame_reader.specs.declared.Header.{Header}
-use Rattle.frame_reader.specs.Headers.{readHeader}
+use Rattle.frame_headers.specs.declared.Header.{Header}
+use Rattle.frame_headers.specs.Headers.{readHeader}
 use Rattle.frame_reader.specs.Bodies.{BodyAhead, readBody}
-use Rattle.frame_reader.proofs.Reached.{Reached, ReadOrRefused, header-read}
+use Rattle.frame_headers.proofs.Reached.{Reached, ReadOrRefused, header-read}
 use Rattle.frame_reader.proofs.Bodies.{body-is}
 
 pub valid-size : (taken size : ℕ) → isValid (state taken size) ≡ true → size < 65536

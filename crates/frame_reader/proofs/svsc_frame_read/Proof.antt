@@ -14,9 +14,9 @@ use Rattle.frame_reader.proofs.svsc_frame_read.Tie as tie
 use Rattle.frame_reader.proofs.svsc_frame_read.Reads as reads
 use Rattle.frame_reader.proofs.svsc_frame_read.Lts as lts
 use Rattle.frame_reader.proofs.answer.Reads as answer-reads
-use Rattle.frame_reader.proofs.is_valid.Reads as is-valid-reads
+use Rattle.frame_headers.proofs.is_valid.Reads as is-valid-reads
 use Rattle.frame_reader.proofs.read_body.Reads as read-body-reads
-use Rattle.frame_reader.proofs.read_header.Reads as read-header-reads
+use Rattle.frame_headers.proofs.read_header.Reads as read-header-reads
 
 -- the place behind the header, and what is known there
 abbrev Place : Type 0

@@ -1,9 +1,9 @@
 -- `read_header`: by how much was taken before.
 use mathlib.Core.Path.{refl}
-use Rattle.frame_reader.proofs.Headers.{from-start, from-one, from-two, from-header}
+use Rattle.frame_headers.proofs.Headers.{from-start, from-one, from-two, from-header}
 use borrow.Author.Needs.{needs}
-use Rattle.frame_reader.proofs.read_header.Statement.{statement}
-use Rattle.frame_reader.proofs.read_header.Tie as tie
+use Rattle.frame_headers.proofs.read_header.Statement.{statement}
+use Rattle.frame_headers.proofs.read_header.Tie as tie
 
 read-high-requires : tie.Need-read-high-requires
 read-high-requires c κs = search needs

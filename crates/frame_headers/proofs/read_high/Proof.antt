@@ -1,10 +1,10 @@
 -- `read_high`: none there, or the second byte behind it.
 use native.Mathlib.Omega.{arith}
 use Prim.Native.Nat.{_≤_}
-use Rattle.frame_reader.proofs.Headers.{low-used, high-none, high-more}
+use Rattle.frame_headers.proofs.Headers.{low-used, high-none, high-more}
 use borrow.Author.Needs.{needs}
-use Rattle.frame_reader.proofs.read_high.Statement.{statement}
-use Rattle.frame_reader.proofs.read_high.Tie as tie
+use Rattle.frame_headers.proofs.read_high.Statement.{statement}
+use Rattle.frame_headers.proofs.read_high.Tie as tie
 
 returns : tie.Need-returns
 returns c = high-none (c .before .before .args .chunk .now) (c .if1 .taken)

@@ -5,7 +5,7 @@ use mathlib.Core.List.{List, [], _∷_}
 use lib.Dec.{eqb}
 use Rattle.octets.specs.Octets.{if_then_else_}
 use Rattle.framing.specs.Frames.{frameType}
-use Rattle.frame_reader.specs.declared.Header.{Header}
+use Rattle.frame_headers.specs.declared.Header.{Header}
 
 -- so many bytes are taken, and this is the state
 abbrev pub reached : (used taken size : ℕ) → Header

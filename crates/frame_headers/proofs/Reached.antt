@@ -15,9 +15,9 @@ use Rattle.framing.specs.Frames.{frameType, refused, startOf}
 use Rattle.framing.specs.Reading.{state, held}
 use Rattle.framing.proofs.Starts.{start-empty, start-untyped, two-bytes, high-is, low-is}
 use Rattle.framing.proofs.States.{Valid, at-start, after-one, after-two}
-use Rattle.frame_reader.specs.declared.Header.{Header}
-use Rattle.frame_reader.specs.Headers.{behind, readType, readLow, readHigh, readHeader}
-use Rattle.frame_reader.proofs.Headers.{from-header}
+use Rattle.frame_headers.specs.declared.Header.{Header}
+use Rattle.frame_headers.specs.Headers.{behind, readType, readLow, readHigh, readHeader}
+use Rattle.frame_headers.proofs.Headers.{from-header}
 
 module _ (buffer : List ℕ) where
   -- from a state, with a chunk, a header was read

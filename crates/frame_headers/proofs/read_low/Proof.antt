@@ -1,10 +1,10 @@
 -- `read_low`: none there, a length of 0, or the type behind it.
 use native.Mathlib.Omega.{arith}
 use Prim.Native.Nat.{_≤_}
-use Rattle.frame_reader.proofs.Headers.{type-used, low-none, low-zero, low-more}
+use Rattle.frame_headers.proofs.Headers.{type-used, low-none, low-zero, low-more}
 use borrow.Author.Needs.{needs}
-use Rattle.frame_reader.proofs.read_low.Statement.{statement}
-use Rattle.frame_reader.proofs.read_low.Tie as tie
+use Rattle.frame_headers.proofs.read_low.Statement.{statement}
+use Rattle.frame_headers.proofs.read_low.Tie as tie
 
 returns : tie.Need-returns
 returns c = low-none (c .before .before .args .size) (c .before .before .args .chunk .now) (c .if1 .taken)

@@ -11,8 +11,8 @@ use lib.Seq.{take-all}
 use borrow.Author.Tests.{eq-eqb, ne-eqb}
 use Rattle.octets.specs.Octets.{if_then_else_}
 use Rattle.framing.specs.Frames.{frameType}
-use Rattle.frame_reader.specs.declared.Header.{Header}
-use Rattle.frame_reader.specs.Headers.{reached, refusedByte, behind, readType, readLow, readHigh, readHeader}
+use Rattle.frame_headers.specs.declared.Header.{Header}
+use Rattle.frame_headers.specs.Headers.{reached, refusedByte, behind, readType, readLow, readHigh, readHeader}
 
 -- ---- how many bytes are taken at most
 

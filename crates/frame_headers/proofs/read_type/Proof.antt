@@ -1,8 +1,8 @@
 -- `read_type`: none there, 1, or another.
-use Rattle.frame_reader.proofs.Headers.{type-none, type-right, type-wrong}
+use Rattle.frame_headers.proofs.Headers.{type-none, type-right, type-wrong}
 use borrow.Author.Needs.{needs}
-use Rattle.frame_reader.proofs.read_type.Statement.{statement}
-use Rattle.frame_reader.proofs.read_type.Tie as tie
+use Rattle.frame_headers.proofs.read_type.Statement.{statement}
+use Rattle.frame_headers.proofs.read_type.Tie as tie
 
 returns : tie.Need-returns
 returns c = type-none (c .before .args .size) (c .before .args .chunk .now) (c .if1 .taken)

@@ -1,8 +1,8 @@
 -- `is_valid`: test by test.
-use Rattle.frame_reader.proofs.Valid.{at-start, too-large, after-one, after-two, no-length}
+use Rattle.frame_headers.proofs.Valid.{at-start, too-large, after-one, after-two, no-length}
 use borrow.Author.Needs.{needs}
-use Rattle.frame_reader.proofs.is_valid.Statement.{statement}
-use Rattle.frame_reader.proofs.is_valid.Tie as tie
+use Rattle.frame_headers.proofs.is_valid.Statement.{statement}
+use Rattle.frame_headers.proofs.is_valid.Tie as tie
 
 returns : tie.Need-returns
 returns c = at-start (c .before .args .taken) (c .before .args .size) (c .if1 .taken)

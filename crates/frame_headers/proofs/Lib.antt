@@ -1,0 +1,3 @@
+pub mod Valid
+pub mod Headers
+pub mod Reached
