@@ -109,6 +109,13 @@ static bool take_chunk(struct stream *stream, const uint8_t *chunk, size_t lengt
 
 static bool is_within_frame(const struct stream *stream) { return stream->taken != 0 || stream->size != 0; }
 
+/* Whether standard output has all that was printed. If not, it is told why. */
+static bool is_printed(void) {
+    if (fflush(stdout) == 0 && !ferror(stdout)) return true;
+    fprintf(stderr, "support_box: standard output: %s\n", strerror(errno));
+    return false;
+}
+
 /* Standard input, to its end. The messages of each chunk are printed before the next is awaited. */
 static int print_stream(void) {
     static struct stream stream;
@@ -121,10 +128,7 @@ static int print_stream(void) {
             return FAILED;
         }
         bool is_taken = take_chunk(&stream, chunk, (size_t)count);
-        if (fflush(stdout) != 0 || ferror(stdout)) {
-            fprintf(stderr, "support_box: standard output: %s\n", strerror(errno));
-            return FAILED;
-        }
+        if (!is_printed()) return FAILED;
         if (!is_taken) {
             fprintf(stderr, "support_box: no frame, as byte %" PRIu64 " shows: its length is 0, or its type isn't 1\n",
                     stream.place);
@@ -140,7 +144,8 @@ static int print_stream(void) {
 
 int main(int count, char **arguments) {
     if (count == 2 && strcmp(arguments[1], "--help") == 0) {
-        return fputs(help, stdout) < 0 || fflush(stdout) != 0 ? FAILED : OK;
+        fputs(help, stdout);
+        return is_printed() ? OK : FAILED;
     }
     if (count != 1) {
         fprintf(stderr, "support_box: it has no arguments; --help says what it does\n");

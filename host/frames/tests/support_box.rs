@@ -193,10 +193,13 @@ fn help_is_printed_and_other_arguments_are_wrong() {
 
 #[test]
 fn what_cannot_be_printed_or_read_is_told() {
-    let mut child = start(&[], File::create("/dev/full").expect("a full disk").into());
-    child.stdin.take().expect("its input").write_all(&frame(&[13])).expect("it reads");
-    let full = finish(child);
-    assert!(full.status == Some(1) && full.told.starts_with("support_box: standard output: "), "{full:?}");
+    for arguments in [&[][..], &["--help"]] {
+        let mut child = start(arguments, File::create("/dev/full").expect("a full disk").into());
+        // Who only asks for help reads nothing.
+        let _ = child.stdin.take().expect("its input").write_all(&frame(&[13]));
+        let full = finish(child);
+        assert!(full.status == Some(1) && full.told.starts_with("support_box: standard output: "), "{full:?}");
+    }
     let folder = File::open("/").expect("a folder");
     let mut command = Command::new(program());
     let output = command.stdin(folder).stderr(Stdio::piped()).stdout(Stdio::piped()).spawn();

@@ -199,6 +199,16 @@ mod tests {
         let many = frame(&[7; 8]).repeat(CHUNK);
         assert_eq!(read(&mut Open(&many[..CHUNK])), ReadOutcome::Part);
         assert_eq!(read(&mut Open(&many[CHUNK..2 * CHUNK - 1])), ReadOutcome::All);
+        assert_eq!(read(&mut Interrupted), ReadOutcome::Part, "it is read again");
         assert_eq!(read(&mut io::empty()), ReadOutcome::End);
+    }
+
+    /// A stream whose read a signal has ended.
+    struct Interrupted;
+
+    impl Read for Interrupted {
+        fn read(&mut self, _: &mut [u8]) -> io::Result<usize> {
+            Err(io::ErrorKind::Interrupted.into())
+        }
     }
 }

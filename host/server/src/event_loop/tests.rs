@@ -1,6 +1,6 @@
 //! The loop by itself, step by step, over real sockets.
 
-use std::io::{ErrorKind, Read};
+use std::io::{ErrorKind, Read, Write};
 use std::net::{Ipv4Addr, SocketAddr, TcpListener, TcpStream};
 use std::sync::{mpsc, Arc};
 use std::time::Duration;
@@ -226,4 +226,31 @@ fn who_is_held_goes_on_whichever_place_it_has() {
         event_loop.release_senders(full);
         assert_eq!(event_loop.sockets.get(socket).expect("it is there").hold, None);
     }
+}
+
+/// Turns of the loop, until all that the peer has sent is read.
+fn take_in(event_loop: &mut EventLoop, socket: SocketId, peer: &mut TcpStream, bytes: &[u8]) {
+    peer.write_all(bytes).expect("it reads");
+    let mut events = Events::with_capacity(8);
+    let mut is_read = false;
+    while !is_read || event_loop.sockets.get(socket).is_some_and(|connection| connection.readable) {
+        event_loop.turn(&mut events).expect("a turn");
+        is_read |= events.iter().any(|event| event.token() == socket.token() && event.is_readable());
+    }
+}
+
+/// As README and DECISIONS tell it: an idle connection costs next to nothing, also one that has spoken.
+#[test]
+fn a_connection_has_an_input_buffer_only_while_bytes_of_a_message_wait() {
+    let (mut event_loop, address) = event_loop();
+    let (mut peer, socket) = connect(&mut event_loop, address);
+    // The version answer, and half a header.
+    take_in(&mut event_loop, socket, &mut peer, &[0, 3, 1, 1, 1, 0]);
+    assert_eq!(event_loop.sockets.get(socket).expect("it is there").phase, Phase::Open);
+    assert_eq!(event_loop.spare_inputs.count(), 1, "the message is served");
+    take_in(&mut event_loop, socket, &mut peer, &[3, 1, 2]);
+    assert_eq!(event_loop.spare_inputs.count(), 0, "a message has begun");
+    event_loop.end(socket, End::Left);
+    assert!(event_loop.sockets.get(socket).is_some(), "its peer hasn't left");
+    assert_eq!(event_loop.spare_inputs.count(), 1, "nobody will take the rest");
 }
