@@ -33,6 +33,10 @@ impl InputBuffer {
     /// Reads once, while there is neither a whole message nor a refusal: then every byte that has come is in the message.
     /// Memory is asked for if it has none. Gives how many bytes were read; up to [`CHUNK`].
     pub fn read_from(&mut self, stream: &mut impl Read, memory: impl FnOnce() -> Box<[u8]>) -> io::Result<usize> {
+        debug_assert!(
+            self.message.is_none() && self.refusal.is_none() && self.start == self.end,
+            "bytes would be lost"
+        );
         if self.memory.is_empty() {
             self.memory = memory();
             self.front = aligned_start(&self.memory, 1);

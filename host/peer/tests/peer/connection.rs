@@ -251,6 +251,21 @@ fn a_relay_that_leaves_bytes_unread_ends_no_connection_in_order() {
     relay.join().expect("the relay");
 }
 
+/// What it would have handed on last may be lost then too.
+#[test]
+fn a_relay_that_stops_within_a_frame_ends_no_connection_in_order() {
+    for part in [&[0][..], &[0, 2], &[0, 2, 1], &[0, 3, 1, 13]] {
+        let (address, relay) = scripted(move |mut connection| {
+            connection.shake_hands();
+            assert_eq!(connection.next(), None);
+            connection.send_raw(part);
+        });
+        let finished = Peer::connect(address).expect("a handshake").finish();
+        assert!(matches!(finished, Err(Error::ClosedMidway)), "{part:?}: {finished:?}");
+        relay.join().expect("the relay");
+    }
+}
+
 /// What the peer sends fills the buffers, since the relay reads none of it.
 #[test]
 fn a_relay_that_takes_nothing_is_waited_for_for_a_time_only() {
