@@ -1,4 +1,6 @@
 // The allowance of a partner: a token bucket.
+#![tactic(auto)]
+
 ghost use Rattle.std.specs.Prelude.{◌≡◌, ◌-◌, min};
 ghost use Rattle.allowance.specs.Bucket.{level_now};
 

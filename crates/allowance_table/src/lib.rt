@@ -1,6 +1,8 @@
 // The allowance table: each partner's level and when it was stored, and the clock, in the last record. A table of the right size and a
 // partner in range are required: the relay's checks 1 and 3 come before anything here is called, and no answer would serve where they
 // fail.
+#![tactic(auto)]
+
 ghost use Rattle.std.specs.Prelude.{◌≡◌, ◌+◌, ◌<◌, length};
 ghost use Rattle.allowance.specs.Bucket.{level_now};
 ghost use Rattle.rules.specs.Sizes.{partners, allowances_size};

@@ -1,4 +1,6 @@
 // What a call answers beside the map, which call_answers adds; in specs/, a plan of the rules carried out, and the rules' outcome.
+#![tactic(auto)]
+
 ghost use Rattle.std.specs.Prelude.{◌≡◌};
 ghost use Rattle.rules.specs.Calls.{sent_nothing};
 ghost use Rattle.answers.specs.Applied.{answer_of, coded, replied, relayed, told_both, disconnected};

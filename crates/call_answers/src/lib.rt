@@ -1,4 +1,6 @@
 // What a call answers, with the map of the connections and the call's record, for C; in specs/, the rules' outcome with both, as C has it.
+#![tactic(auto)]
+
 ghost use Rattle.std.specs.Prelude.{◌≡◌, ◌<◌, eqb};
 ghost use Rattle.octets.specs.Octets.{if◌then◌else◌};
 ghost use Rattle.rules.specs.Sizes.{connection_count};

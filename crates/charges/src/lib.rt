@@ -1,4 +1,6 @@
 // Paying for a call. Check 9 has shown that its partner has as much; no answer would serve where it hasn't.
+#![tactic(auto)]
+
 ghost use Rattle.std.specs.Prelude.{◌≡◌, List, ℕ};
 ghost use Rattle.allowance.specs.Bucket.{spend};
 ghost use Rattle.rules.specs.Tables.{partner_of, bucket_of, set_bucket, set_clock};

@@ -1,5 +1,7 @@
 // Single checks, of which a call has some: what each looks at. They only read. The numbers that refuse a call are those of crates
 // `refusals` and `message_refusal`.
+#![tactic(auto)]
+
 ghost use Rattle.std.specs.Prelude.{◌≡◌, ◌||◌, List, ℕ, max, length, ltb};
 ghost use Rattle.rules.specs.Sizes.{allowances_size};
 ghost use Rattle.rules.specs.Tables.{lent, sized, clock};

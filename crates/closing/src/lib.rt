@@ -1,5 +1,7 @@
 // A connection that ends, by a close or because it is dead: its session, the rows that name it, and its record. That it is one of the
 // table's, and that the buffer has room, the checks have shown.
+#![tactic(auto)]
+
 ghost use Rattle.std.specs.Prelude.{◌≡◌, List, ℕ, ◌≤◌, ◌<◌, length};
 ghost use Rattle.rules.specs.Tables.{lent};
 ghost use Rattle.rules.specs.Sizes.{connection_count, least_buffer};

@@ -1,4 +1,6 @@
 // One bit of the map of the connections, set or cleared.
+#![tactic(auto)]
+
 ghost use Rattle.std.specs.Prelude.{◌≡◌, ◌<◌};
 ghost use Rattle.rules.specs.Sizes.{connection_count};
 ghost use Rattle.connection_map.specs.Bits.{with_bit, without_bit};

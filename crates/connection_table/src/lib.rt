@@ -1,5 +1,7 @@
 // The connection table: the state of each connection, and the records of those who open and close. A connection is a byte, so that the
 // place of its record never overflows.
+#![tactic(auto)]
+
 ghost use Rattle.std.specs.Prelude.{◌≡◌};
 ghost use Rattle.rules.specs.Tables.{state, is_open, set_state, opened};
 ghost use Rattle.rules.specs.Sessions.{clear, await};

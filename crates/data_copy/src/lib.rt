@@ -1,4 +1,6 @@
 // The copying of sent data. It is given the data and a buffer, and no table: where it goes was decided before.
+#![tactic(auto)]
+
 ghost use Rattle.std.specs.Prelude.{◌≡◌};
 ghost use Rattle.svsc.specs.Copying.{copied, copy_data};
 

@@ -1,6 +1,8 @@
 // What a message will do and what it costs, decided on shared slices before anything is written. Whoever acts on a decision searches
 // nothing again.
 // Sizes and numbers in range are what the checks have shown, and no answer would serve where they fail.
+#![tactic(auto)]
+
 ghost use Rattle.std.specs.Prelude.{◌≡◌, List, ℕ, ◌≤◌, ◌<◌, length};
 ghost use Rattle.octets.specs.Octets.{if◌then◌else◌};
 ghost use Rattle.svsc.specs.Messages.{longest_message, decode};

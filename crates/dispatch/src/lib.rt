@@ -1,5 +1,7 @@
 // What was decided on a message, carried out. Sizes, numbers in range and the room in the buffers are what the checks have shown, and no
 // answer would serve where they fail.
+#![tactic(auto)]
+
 ghost use Rattle.std.specs.Prelude.{◌≡◌};
 ghost use Rattle.rules.specs.Tables.{lent};
 ghost use Rattle.rules.specs.Plans.{plan_decided};

@@ -1,5 +1,7 @@
 // Sessions: what was decided on a request, carried out. Numbers in range and the room in the buffers are what the checks have shown,
 // and no answer would serve where they fail.
+#![tactic(auto)]
+
 ghost use Rattle.std.specs.Prelude.{◌≡◌, List, ℕ, ◌≤◌, length};
 ghost use Rattle.svsc.specs.Messages.{encode, established, establish_notification};
 ghost use Rattle.rules.specs.Sizes.{least_buffer, random_bytes};

@@ -1,4 +1,6 @@
 // Why a message is answered as it is: the check that stops it, what decided a done lease or establish, and its headroom.
+#![tactic(auto)]
+
 ghost use Rattle.std.specs.Prelude.{◌≡◌, List, ℕ, ◌≤◌, ◌<◌, length};
 ghost use Rattle.rules.specs.Tables.{lent};
 ghost use Rattle.rules.specs.Calls.{message};

@@ -1,4 +1,6 @@
 // A reader's state, and what is missing of a frame's header, read from a chunk.
+#![tactic(auto)]
+
 ghost use Rattle.std.specs.Prelude.{◌≡◌, ◌<◌};
 ghost use Rattle.framing.specs.Reading.{state, is_valid};
 ghost use Rattle.frame_headers.specs.Headers.{read_type, read_low, read_high, read_header};

@@ -1,4 +1,6 @@
 // Frames read from a stream, chunk by chunk.
+#![tactic(auto)]
+
 ghost use Rattle.std.specs.Prelude.{◌≡◌};
 ghost use Rattle.framing.specs.Reading.{state, step};
 ghost use Rattle.frame_reader.specs.Answers.{step_of};

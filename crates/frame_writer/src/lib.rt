@@ -1,4 +1,6 @@
 // Messages written as frames.
+#![tactic(auto)]
+
 ghost use Rattle.std.specs.Prelude.{◌≡◌, ◌∷◌, [], ◌++◌, suc, ◌≤◌};
 ghost use Rattle.octets.specs.Octets.{big_endian};
 ghost use Rattle.framing.specs.Frames.{frame_type, message_limit};

@@ -1,5 +1,6 @@
 // Frames on a stream (02, Item 9): definitions and laws, and the numbers that the code has in common, which is in the crates frame_headers,
 // frame_reader and frame_writer.
+#![tactic(auto)]
 
 // The longest message of a frame, which is what a reader's buffer must hold.
 pub const MESSAGE_LIMIT: usize = 65534;

@@ -1,4 +1,6 @@
 // The tables of a fresh relay. Tables of the right size are required: check 1 comes before anything here is called.
+#![tactic(auto)]
+
 ghost use Rattle.std.specs.Prelude.{◌≡◌, ℕ, ◌*◌, ◌≤◌, length};
 ghost use Rattle.octets.specs.Octets.{put};
 ghost use Rattle.rules.specs.Sizes.{connections_size, leases_size, allowances_size};

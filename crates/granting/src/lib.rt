@@ -1,5 +1,7 @@
 // What was decided on a lease request, carried out: a new lease, a renewal, a refusal. Sizes, numbers in range and the room in the buffer
 // are what the checks have shown, and no answer would serve where they fail.
+#![tactic(auto)]
+
 ghost use Rattle.std.specs.Prelude.{◌≡◌, List, ℕ, ◌≤◌, ◌<◌, length};
 ghost use Rattle.rules.specs.Tables.{lent};
 ghost use Rattle.rules.specs.Sizes.{row_count, random_bytes, least_buffer};

@@ -1,4 +1,6 @@
 // Who holds a lease row.
+#![tactic(auto)]
+
 ghost use Rattle.std.specs.Prelude.{◌≡◌, ◌&&◌, eqb};
 ghost use Rattle.rules.specs.Tables.{partner_of, owner_of, is_open};
 

@@ -1,4 +1,6 @@
 // Records of the journal: read at a place, and written.
+#![tactic(auto)]
+
 ghost use Rattle.std.specs.Prelude.{◌≡◌, ◌+◌, ◌≤◌, length};
 ghost use Rattle.octets.specs.Octets.{if◌then◌else◌, byte_at};
 ghost use Rattle.rules.specs.Sizes.{open_cost};

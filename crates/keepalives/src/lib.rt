@@ -1,5 +1,7 @@
 // What a connection record says of keepalives: whether one is unanswered, and the times of the last message sent and of that keepalive.
 // Who is dead, who is to be asked, and what is written of messages sent and heard.
+#![tactic(auto)]
+
 ghost use Rattle.std.specs.Prelude.{◌≡◌, ◌<◌, length};
 ghost use Rattle.rules.specs.Sizes.{connection_count, connections_size};
 ghost use Rattle.rules.specs.Tables.{is_unanswered};

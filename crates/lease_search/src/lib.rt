@@ -1,5 +1,7 @@
 // The searches over a partner's lease rows. Tables of the right size and numbers in range are required: the relay's checks 1 and 3 come
 // before anything here is called, and no answer would serve where they fail.
+#![tactic(auto)]
+
 ghost use Rattle.std.specs.Prelude.{◌≡◌, ◌<◌, length};
 ghost use Rattle.rules.specs.Sizes.{partners, connection_count, row_count, leases_size};
 ghost use Rattle.rules.specs.Searches.{first_own, any_own};

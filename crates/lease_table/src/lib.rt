@@ -1,6 +1,8 @@
 // The lease table: a partner's rows and their fields.
 // Tables of the right size and numbers in range are required where a field is read or a place worked out: the relay's checks 1 and 3 come
 // before anything here is called, and no answer would serve where they fail.
+#![tactic(auto)]
+
 ghost use Rattle.std.specs.Prelude.{◌≡◌, ◌<◌, length};
 ghost use Rattle.rules.specs.Sizes.{partners, row_count, leases_size};
 ghost use Rattle.rules.specs.Searches.{end_row};

@@ -1,5 +1,7 @@
 // How long leases last: the term that the allowance table keeps, and the one that a fresh relay is made with. A table of the right size and
 // a time in range are required: the relay's checks 1 and 2 come before anything here is called, and no answer would serve where they fail.
+#![tactic(auto)]
+
 ghost use Rattle.std.specs.Prelude.{◌≡◌, ◌<◌, length};
 ghost use Rattle.rules.specs.Sizes.{allowances_size, time_limit};
 ghost use Rattle.rules.specs.Tables.{term_in_range, lease_term, named_term};

@@ -1,5 +1,7 @@
 // What is written to the rows of leases: by a new lease, a renewal, an extension and a close. Numbers in range are required: the relay's checks come
 // before anything here is called, and no answer would serve where they fail.
+#![tactic(auto)]
+
 ghost use Rattle.std.specs.Prelude.{◌≡◌, ◌<◌};
 ghost use Rattle.rules.specs.Sizes.{connection_count, row_count};
 ghost use Rattle.rules.specs.Tables.{set_expiry};

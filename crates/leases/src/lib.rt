@@ -1,6 +1,8 @@
 // Leases: the id of a new one, and what decides a request.
 // Tables and random bytes of the right size, and numbers in range, are required: the relay's checks 1, 2, 3 and 5 come before anything here
 // is called, and no answer would serve where they fail.
+#![tactic(auto)]
+
 ghost use Rattle.std.specs.Prelude.{◌≡◌, List, ℕ, ◌<◌, length};
 ghost use Rattle.rules.specs.Sizes.{partners, connection_count, leases_size, candidate_count, random_bytes};
 ghost use Rattle.rules.specs.Leases.{candidate, random_cookie, renew_or_grant, decide_lease};

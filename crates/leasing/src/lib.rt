@@ -1,5 +1,7 @@
 // Leases: what was decided on a request, and on an extension, carried out. Sizes, numbers in range and the room in the buffer are what
 // the checks have shown, and no answer would serve where they fail.
+#![tactic(auto)]
+
 ghost use Rattle.std.specs.Prelude.{◌≡◌, List, ℕ, length};
 ghost use Rattle.rules.specs.Tables.{lent};
 ghost use Rattle.rules.specs.Sizes.{random_bytes};

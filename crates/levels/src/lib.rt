@@ -1,4 +1,6 @@
 // What the plain replay keeps: every partner's level at the latest done reading, filled second by second, and the table that is made of them.
+#![tactic(auto)]
+
 ghost use Rattle.std.specs.Prelude.{◌≡◌, ◌↔◌, true, [], ◌∷◌, ℕ, ◌+◌, ◌<◌, min, length, get_or};
 ghost use Rattle.octets.specs.Octets.{put};
 ghost use Rattle.allowance.specs.Bucket.{capacity, refill_rate};

@@ -1,4 +1,6 @@
 // Comparisons of bytes in lent slices, and of their number.
+#![tactic(auto)]
+
 ghost use Rattle.std.specs.Prelude.{◌≡◌, length, eqb, ltb};
 ghost use Rattle.octets.specs.Octets.{part, same, is_bytes, is_short};
 

@@ -1,4 +1,6 @@
 // Copies of many bytes between lent slices.
+#![tactic(auto)]
+
 ghost use Rattle.std.specs.Prelude.{◌≡◌, ◌+◌, ◌≤◌, length};
 ghost use Rattle.octets.specs.Octets.{put};
 ghost use Rattle.octet_copies.specs.Sizes.{copy_limit};

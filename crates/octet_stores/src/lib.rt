@@ -1,4 +1,6 @@
 // Stores in lent slices: bytes, runs of bytes and numbers.
+#![tactic(auto)]
+
 ghost use Rattle.std.specs.Prelude.{◌≡◌, [], ◌∷◌, ◌-◌, ◌≤◌, min, length, replicate};
 ghost use Rattle.octets.specs.Octets.{put, big_endian};
 

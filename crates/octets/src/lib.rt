@@ -1,4 +1,6 @@
 // Bytes in lent slices, read: numbers and parts. What stores leave is defined here too; crate octet_stores has the code.
+#![tactic(auto)]
+
 ghost use Rattle.std.specs.Prelude.{◌≡◌, ◌+◌, ◌*◌, ◌≤◌, length, drop};
 ghost use Rattle.octets.specs.Octets.{byte_at, part, big_endian, number_at};
 

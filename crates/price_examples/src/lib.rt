@@ -1,1 +1,2 @@
 // What calls cost, worked out by hand: definitions and the laws of their tables. There is no code.
+#![tactic(auto)]

@@ -1,6 +1,8 @@
 // What the functions that explain calls have in common: a reason as C has it, with and without a headroom. Each call has a crate of its own
 // for its function, explain_open and so on; they only read, and are lent no buffer: of the reply and the relay buffer they are told the
 // lengths.
+#![tactic(auto)]
+
 ghost use Rattle.std.specs.Prelude.{◌≡◌, not, ◌&&◌, ◌+◌, ◌^◌, ◌<◌, eqb, pos, ◌-ℤ◌};
 ghost use Rattle.std.proofs.Math.Option.{none, some};
 ghost use Rattle.reasons.specs.Coded.{reason_of};

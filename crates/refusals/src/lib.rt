@@ -1,5 +1,7 @@
 // The checks of a call in their order: the number of the first that applies, or 0. They only read, and of a buffer they get the length,
 // which is all that counts. Those of a message have a crate of their own, `message_refusal`.
+#![tactic(auto)]
+
 ghost use Rattle.std.specs.Prelude.{◌≡◌};
 ghost use Rattle.rules.specs.Tables.{lent};
 ghost use Rattle.refusals.specs.Passed.{first_three};

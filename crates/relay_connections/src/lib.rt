@@ -1,4 +1,6 @@
 // How many connections a partner has, and which number a new one gets: read from the map alone.
+#![tactic(auto)]
+
 ghost use Rattle.std.specs.Prelude.{◌≡◌, ◌/◌, ◌%◌, ◌^◌, ◌<◌};
 ghost use Rattle.rules.specs.Sizes.{partners, connections_per_partner};
 ghost use Rattle.connection_map.specs.Maps.{first_connection, connections_of, lowest_closed, partner_connections};

@@ -1,4 +1,6 @@
 // Making a fresh relay: refused, or each table written.
+#![tactic(auto)]
+
 ghost use Rattle.std.specs.Prelude.{◌≡◌, []};
 ghost use Rattle.rules.specs.Tables.{lent};
 ghost use Rattle.journal.specs.Steps.{start_recorded};

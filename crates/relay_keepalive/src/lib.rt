@@ -1,4 +1,6 @@
 // Finding out whether a connection is dead: refused, or it is closed, or asked, or left alone.
+#![tactic(auto)]
+
 ghost use Rattle.std.specs.Prelude.{◌≡◌, List, ℕ, ◌≤◌, ◌<◌, length};
 ghost use Rattle.svsc.specs.Messages.{keepalive_message, encode};
 ghost use Rattle.rules.specs.Tables.{lent};

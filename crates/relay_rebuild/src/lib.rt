@@ -1,4 +1,6 @@
 // The map of a connection table, for tables that come without one.
+#![tactic(auto)]
+
 ghost use Rattle.std.specs.Prelude.{◌≡◌, ◌<◌};
 ghost use Rattle.octets.specs.Octets.{if◌then◌else◌};
 ghost use Rattle.rules.specs.Sizes.{connection_count};

@@ -1,4 +1,6 @@
 // Replaying a journal from a fresh relay, on an allowance table as the relay keeps it.
+#![tactic(auto)]
+
 ghost use Rattle.std.specs.Prelude.{◌≡◌, not, List, ℕ, length};
 ghost use Rattle.octets.specs.Octets.{if◌then◌else◌};
 ghost use Rattle.rules.specs.Sizes.{allowances_size};

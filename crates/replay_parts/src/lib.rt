@@ -1,4 +1,6 @@
 // What the two replays of a journal share: what refuses them, whether a record contradicts the rules, and their answer.
+#![tactic(auto)]
+
 ghost use Rattle.std.specs.Prelude.{◌≡◌, ◌&&◌, ◌||◌, not, leb, ltb};
 ghost use Rattle.rules.specs.Sizes.{connection_count, time_limit};
 ghost use Rattle.journal.specs.Records.{unrecorded, priced};

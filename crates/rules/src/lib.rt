@@ -1,4 +1,5 @@
 // The numbers of documents 01 and 02 that the relay's code uses, one place for each. The names are those of specs/Sizes.antt and specs/Tables.antt.
+#![tactic(auto)]
 
 // How many partners there are, and what each of them has.
 pub const PARTNERS: usize = 8;

@@ -1,5 +1,7 @@
 // The sessions in the connection table: who is in session with whom, and what both records hold of it. Random bytes of the right length are
 // required: check 5 comes before they are used.
+#![tactic(auto)]
+
 ghost use Rattle.std.specs.Prelude.{◌≡◌, ◌++◌, length};
 ghost use Rattle.svsc.specs.Messages.{key_bytes};
 ghost use Rattle.rules.specs.Sizes.{random_bytes};

@@ -1,5 +1,7 @@
 // The version answer, the end of a session, and data sent in one. The room in the buffers and the length of data are what the checks have
 // shown, and no answer would serve where they fail.
+#![tactic(auto)]
+
 ghost use Rattle.std.specs.Prelude.{◌≡◌, List, ℕ, ◌≤◌, length, drop};
 ghost use Rattle.octets.specs.Octets.{if◌then◌else◌};
 ghost use Rattle.rules.specs.Sizes.{least_buffer};

@@ -1,5 +1,7 @@
 // The row of a new lease. A table of the right size and numbers in range are required: the relay's checks 1 and 3 come before anything here
 // is called, and no answer would serve where they fail.
+#![tactic(auto)]
+
 ghost use Rattle.std.specs.Prelude.{◌≡◌, ◌≤◌, ◌<◌, length};
 ghost use Rattle.rules.specs.Sizes.{partners, row_count, leases_size};
 ghost use Rattle.rules.specs.Leases.{spare_row};

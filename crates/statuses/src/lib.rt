@@ -1,5 +1,7 @@
 // Whether a session may be established: the status that refuses it, or the holder that it is with. Only reads.
 // The size of the lease table and the connection in range are what the checks have shown, and no answer would serve where they fail.
+#![tactic(auto)]
+
 ghost use Rattle.std.specs.Prelude.{◌≡◌, ◌<◌, length};
 ghost use Rattle.rules.specs.Sizes.{connection_count, leases_size};
 ghost use Rattle.rules.specs.Sessions.{decide_establish};

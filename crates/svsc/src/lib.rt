@@ -1,4 +1,5 @@
 // What the codec's reader and writers share. The messages are definitions, in specs/Messages.antt, and their laws are in proofs/.
+#![tactic(auto)]
 
 // What a writer did: 0 with the bytes written, 5 or 6.
 #[repr(C)]

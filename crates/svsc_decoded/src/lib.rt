@@ -1,4 +1,6 @@
 // What the reader of the messages answers. What each case means is in specs/Reading.antt, how a caller uses it in proofs/Cases.antt.
+#![tactic(auto)]
+
 ghost use Rattle.std.specs.Prelude.{◌≡◌};
 ghost use Rattle.svsc_decoded.specs.Reading.{only_if};
 

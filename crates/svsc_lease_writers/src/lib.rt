@@ -1,4 +1,6 @@
 // The writers of types 2 to 5, leases and their extensions: a function for each form, exported to C.
+#![tactic(auto)]
+
 ghost use Rattle.std.specs.Prelude.{◌≡◌};
 ghost use Rattle.svsc.specs.Messages.{lease_request, lease_request_with_cookie, lease_refused, lease_granted, extension_request};
 ghost use Rattle.svsc.specs.Messages.{extension_refused, extension_granted};

@@ -1,4 +1,6 @@
 // The one way out of every writer: a type byte and up to four parts. A field outside its range (6) comes before a buffer too short (5).
+#![tactic(auto)]
+
 ghost use Rattle.std.specs.Prelude.{◌≡◌, ◌∷◌, ◌++◌, ◌+◌, ◌≤◌, length, leb};
 ghost use Rattle.octets.specs.Octets.{put};
 ghost use Rattle.svsc.specs.Writing.{emit, written};

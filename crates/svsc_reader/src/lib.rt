@@ -1,4 +1,6 @@
 // The reader of the fourteen messages: the first byte picks the reader of its type.
+#![tactic(auto)]
+
 ghost use Rattle.std.specs.Prelude.{◌≡◌, false, get_or};
 ghost use Rattle.svsc.specs.Messages.{decode, is_some, from_peer, sent_by_peers};
 ghost use Rattle.svsc_decoded.specs.Reading.{answer, meaning};

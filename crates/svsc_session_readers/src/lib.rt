@@ -1,4 +1,6 @@
 // The readers of types 6 to 13, sessions and the keepalive: bytes of the type into a message.
+#![tactic(auto)]
+
 ghost use Rattle.std.specs.Prelude.{◌≡◌, ◌<◌};
 ghost use Rattle.svsc.specs.Messages.{type_of, decode};
 ghost use Rattle.svsc_decoded.specs.Reading.{answer, meaning};

@@ -1,4 +1,6 @@
 // The writers of types 6 to 13, sessions and the keepalive: a function for each form, exported to C.
+#![tactic(auto)]
+
 ghost use Rattle.std.specs.Prelude.{◌≡◌, [], ◌∷◌, ◌++◌};
 ghost use Rattle.octets.specs.Octets.{big_endian};
 ghost use Rattle.svsc.specs.Messages.{establish_request, establish_refused, established, establish_notification, session_end};

@@ -1,4 +1,6 @@
 // The readers of types 0 and 1, the versions: bytes of the type into a message.
+#![tactic(auto)]
+
 ghost use Rattle.std.specs.Prelude.{◌≡◌, ◌+◌, ◌-◌, ◌*◌, ◌≤◌, length};
 ghost use Rattle.octets.specs.Octets.{part};
 ghost use Rattle.svsc.specs.Messages.{type_of, decode, is_digit, are_digits, is_version};

@@ -1,4 +1,6 @@
 // The writers of types 0 and 1, the versions: a function for each form, exported to C.
+#![tactic(auto)]
+
 ghost use Rattle.std.specs.Prelude.{◌≡◌};
 ghost use Rattle.svsc.specs.Messages.{digits, protocol_version, version_answer};
 ghost use Rattle.svsc.specs.Writing.{write, written};
