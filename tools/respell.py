@@ -161,7 +161,7 @@ def respelled(path, text, new, library):
     """A file's text with each word of the table turned."""
     taken = imports(text, own_crates_of[0])
     code = path.endswith(".antt")
-    clauses = None if code else [m.span() for m in CLAUSE.finditer(text)] + [m.span() for m in GHOST.finditer(text)]
+    clauses = None if code else [braces(text, m) for m in CLAUSE.finditer(text)] + [m.span() for m in GHOST.finditer(text)]
     comments = [m.span() for m in (COMMENT if code else RUST_COMMENT).finditer(text)]
     spans = [m.span() for m in re.finditer(r"`[^`\n]+`", text)]
     inner = re.search(r"/proofs/[^/]+/", path) is not None
@@ -191,7 +191,17 @@ own_crates_of = [set()]
 COMMENT = re.compile(r"(?:^|(?<=\s))--[^\n]*", re.M)
 RUST_COMMENT = re.compile(r"//[^\n]*")
 GHOST = re.compile(r"ghost\s+use\b[^;]*;")
-CLAUSE = re.compile(r"^ *(?:requires|ensures|ghost)\b[^{;]*\{.*?\}(?=\n)", re.M | re.S)
+CLAUSE = re.compile(r"^ *(?:requires|ensures|ghost)\b(?! use)[^{;]*\{", re.M)
+
+
+def braces(text, m):
+    """From a clause's word to the brace that closes it."""
+    depth = 0
+    for at in range(m.end() - 1, len(text)):
+        depth += (text[at] == "{") - (text[at] == "}")
+        if depth == 0:
+            return m.start(), at + 1
+    return m.span()
 
 
 def main(argv):
