@@ -7,7 +7,7 @@ ghost use Rattle.answers.specs.Applied.{answer_of, coded, replied, relayed, told
 
 // What a call answers, in numbers: that of the check or 0, the bytes in the reply and relay buffers, the connection that the relayed message
 // is for or 255, and 1 where the host has to disconnect the caller.
-#[derive(Drop)]
+#[derive(Clone, Copy)]
 pub struct Answer {
     pub number: u32,
     pub reply: u32,

@@ -14,7 +14,7 @@ use journal_records::RECORD_BYTES;
 
 // What a call answers (answers::Answer), the map afterwards, and its record in the journal.
 #[repr(C)]
-#[derive(Drop)]
+#[derive(Clone, Copy)]
 pub struct CallAnswer {
     pub number: u32,
     pub reply: u32,

@@ -20,7 +20,7 @@ use svsc_decoded::Decoded;
 
 // The version answer; what was decided on a lease; the row to extend, or the end of the partner's rows; the id asked for and what was
 // decided on a session with its holder; the other connection of the session that ends, or that the data goes to; or nothing.
-#[derive(Drop)]
+#[derive(Clone, Copy)]
 pub enum Decision {
     AnswerVersion(u8),
     Lease(LeaseDecision),

@@ -6,7 +6,7 @@ ghost use Rattle.framing.specs.Reading.{state, is_valid};
 ghost use Rattle.frame_headers.specs.Headers.{read_type, read_low, read_high, read_header};
 
 // The state once the chunk's bytes of a header are taken, and how many these are; or the header is refused.
-#[derive(Drop)]
+#[derive(Clone, Copy)]
 pub struct Header {
     pub refused: bool,
     pub used: usize,

@@ -8,7 +8,7 @@ ghost use Rattle.frame_reader.specs.Bodies.{BodyAhead, read_body};
 
 // What a step answers: the number, whether a message stands in the buffer, bytes of the chunk taken, the message's length, and the state.
 #[repr(C)]
-#[derive(Drop)]
+#[derive(Clone, Copy)]
 pub struct FrameStep {
     pub number: u32,
     pub complete: u32,

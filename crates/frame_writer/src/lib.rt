@@ -9,7 +9,7 @@ ghost use Rattle.frame_writer.specs.Answers.{written};
 
 // What the writer answers: the number, and how many bytes stand at the buffer's start.
 #[repr(C)]
-#[derive(Drop)]
+#[derive(Clone, Copy)]
 pub struct FrameWritten {
     pub number: u32,
     pub length: u32,

@@ -8,7 +8,7 @@ ghost use Rattle.journal_reader.specs.Places.{place_in, place_after};
 
 use journal_records::Item;
 
-#[derive(Drop)]
+#[derive(Clone, Copy)]
 pub struct Reader<'a> {
     pub journal: &'a [u8],
     pub place: usize,

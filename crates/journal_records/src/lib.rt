@@ -18,7 +18,7 @@ pub const CLOSE: u8 = 2;
 
 pub const KEEPALIVE: u8 = 3;
 
-#[derive(Drop)]
+#[derive(Clone, Copy)]
 pub struct Record {
     pub time: u64,
     pub connection: u8,
@@ -29,7 +29,7 @@ pub struct Record {
 }
 
 // What stands at a place of a journal: a record, fewer bytes than a record has, or nothing.
-#[derive(Drop)]
+#[derive(Clone, Copy)]
 pub enum Item {
     Record(Record),
     Tail,

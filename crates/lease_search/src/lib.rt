@@ -10,7 +10,7 @@ ghost use Rattle.rules.specs.Sessions.{row_of_id};
 ghost use Rattle.lease_search.specs.Searches.{passes};
 
 // What a search over a partner's rows looks for. The cookie is lent beside it, since an enum holds no slice.
-#[derive(Drop)]
+#[derive(Clone, Copy)]
 enum Sought {
     HeldBy(u8), // a live row that this connection holds
     WithId(u32), // a live row that has this id

@@ -9,7 +9,7 @@ ghost use Rattle.rules.specs.Leases.{candidate, random_cookie, renew_or_grant, d
 ghost use Rattle.leases.specs.Leases.{free_id, found_id, meaning};
 
 // The first free candidate's id, or that none is free.
-#[derive(Drop)]
+#[derive(Clone, Copy)]
 pub enum FreeId {
     At(u32),
     Nothing,
@@ -17,7 +17,7 @@ pub enum FreeId {
 
 // What a lease request comes to: the first of 01's four conditions that fails, the row that is renewed, or the row and the id of a new
 // lease.
-#[derive(Drop)]
+#[derive(Clone, Copy)]
 pub enum LeaseDecision {
     HoldsLease,
     NoSpareRow,

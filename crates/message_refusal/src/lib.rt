@@ -14,7 +14,7 @@ use decisions::Decision;
 
 // What is known of a message before anything is written: the number of the first check that applies, or 0; its price and what it will
 // do, where checks 1 to 8 pass, so also where check 9 stops it.
-#[derive(Drop)]
+#[derive(Clone, Copy)]
 pub struct Assessment {
     pub number: u32,
     pub price: u64,
@@ -23,7 +23,7 @@ pub struct Assessment {
 
 // What checks 1 to 8 find: the number of the first that applies, or 0; and the connection that check 8 found in session with the caller, or
 // 255. For types 9 and 11 the session is looked up here and nowhere else: whoever needs the other connection is handed this.
-#[derive(Drop)]
+#[derive(Clone, Copy)]
 struct Found {
     number: u32,
     peer: u8,

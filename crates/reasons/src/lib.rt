@@ -10,7 +10,7 @@ ghost use Rattle.reasons.specs.Coded.{reason_of};
 // A reason, for C: the check or 0; what a done call asked for, 1 a lease or 2 a session, and what decided it; 1 where there is a
 // headroom, and the headroom.
 #[repr(C)]
-#[derive(Drop)]
+#[derive(Clone, Copy)]
 pub struct Reason {
     pub check: u32,
     pub request: u32,
@@ -25,7 +25,7 @@ pub const LEASE: u32 = 1;
 pub const ESTABLISH: u32 = 2;
 
 // What decided a call: its request and its condition.
-#[derive(Drop)]
+#[derive(Clone, Copy)]
 pub struct Named {
     pub request: u32,
     pub condition: u32,

@@ -16,7 +16,7 @@ const NO_SUCH_PARTNER: u32 = 3;
 
 // number: 0, or 3; then how many connections the partner has, and the lowest closed number of the partner, or 255.
 #[repr(C)]
-#[derive(Drop)]
+#[derive(Clone, Copy)]
 pub struct PartnerConnections {
     pub number: u32,
     pub connections: u32,

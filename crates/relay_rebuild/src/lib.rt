@@ -14,7 +14,7 @@ const WRONG_SIZE: u32 = 1;
 
 // number: 0, or 1; then the map, or 0.
 #[repr(C)]
-#[derive(Drop)]
+#[derive(Clone, Copy)]
 pub struct Rebuilt {
     pub number: u32,
     pub map: u64,

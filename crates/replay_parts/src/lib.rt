@@ -14,7 +14,7 @@ use journal_records::Record;
 // What a replay answers: 0 or what refuses it; 1 where the journal is contradicted, and the byte at which the first record that contradicts, or a
 // short tail, begins.
 #[repr(C)]
-#[derive(Drop)]
+#[derive(Clone, Copy)]
 pub struct Replayed {
     pub number: u32,
     pub contradicted: u32,

@@ -16,14 +16,14 @@ use journal_records::{Item, Record};
 use replay_parts::Replayed;
 
 // One turn: whether it passed, and the time of the latest done record.
-#[derive(Drop)]
+#[derive(Clone, Copy)]
 struct Turn {
     passed: bool,
     clock: u64,
 }
 
 // The answer, and the time of the latest done record.
-#[derive(Drop)]
+#[derive(Clone, Copy)]
 struct Judged {
     answer: Replayed,
     clock: u64,

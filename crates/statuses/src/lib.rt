@@ -8,7 +8,7 @@ ghost use Rattle.rules.specs.Sessions.{decide_establish};
 ghost use Rattle.statuses.specs.Decisions.{decided_as};
 
 // The status that refuses a session, or the holder that it is with.
-#[derive(Drop)]
+#[derive(Clone, Copy)]
 pub enum EstablishDecision {
     RefusedWith(u8),
     EstablishedWith(u8),

@@ -3,7 +3,7 @@
 
 // What a writer did: 0 with the bytes written, 5 or 6.
 #[repr(C)]
-#[derive(Drop)]
+#[derive(Clone, Copy)]
 pub struct Written {
     pub number: u32,
     pub length: usize,

@@ -9,7 +9,7 @@ use svsc_decoded::Decoded;
 
 // A message for C: numbers, 0 where the message hasn't got one; `number` is 0, or 6 where the bytes are no message.
 #[repr(C)]
-#[derive(Drop)]
+#[derive(Clone, Copy)]
 pub struct Numbers {
     pub number: u32,
     pub kind: u32,

@@ -5,7 +5,7 @@ ghost use Rattle.std.specs.Prelude.{◌≡◌};
 ghost use Rattle.svsc_decoded.specs.Reading.{only_if};
 
 // What bytes are: a case for each form of a message, with its numbers; its fields of bytes are parts of the bytes that were read.
-#[derive(Drop)]
+#[derive(Clone, Copy)]
 pub enum Decoded {
     Version { major: u16, minor: u16 },
     VersionAnswer { ok: u8 },
