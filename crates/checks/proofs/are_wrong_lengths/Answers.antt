@@ -1,0 +1,7 @@
+-- `are_wrong_lengths`: three tests.
+use Rattle.rules.specs.Checks.{wrong_lengths}
+use Rattle.checks.proofs.are_wrong_lengths.Goals as goal
+
+pub returns : goal.returns
+unfolding wrong_lengths
+returns c time k reply relay e c = rw (c.larger.ensures, e, c)

@@ -1,0 +1,7 @@
+-- `record_at`: field by field.
+use Rattle.journal_records.proofs.Items.{fields}
+use Rattle.journal_records.proofs.record_at.Goals as goal
+
+pub returns : goal.returns
+returns c =
+    fields _ _ c.requires _ c.read64.ensures c.byte.ensures c.byte-2.ensures c.byte-3.ensures c.byte-4.ensures c.read32.ensures

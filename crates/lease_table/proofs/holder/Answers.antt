@@ -1,0 +1,5 @@
+-- `holder`: the row's byte behind its id.
+use Rattle.lease_table.proofs.holder.Goals as goal
+
+pub returns : goal.returns
+returns c = c.byte.ensures

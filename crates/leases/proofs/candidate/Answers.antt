@@ -1,0 +1,7 @@
+-- `candidate`: four bytes behind the cookie, modulo the limit of ids.
+use Rattle.rules.specs.Leases.{candidate}
+use Rattle.leases.proofs.candidate.Goals as goal
+
+pub returns : goal.returns
+unfolding candidate
+returns c = rw c.read32.ensures

@@ -1,0 +1,41 @@
+-- `extend`: the end of the row that was found, or refused.
+use Prim.Native.Nat.{◌^◌, ◌≤◌, ◌<◌}
+use native.Mathlib.Omega.{arith}
+use mathlib.Core.Path.{refl, ap}
+use lib.ListN.{length}
+use Rattle.svsc.specs.Messages.{extension_refused, extension_granted, encode, well_formed}
+use Rattle.rules.specs.Tables.{partner_of}
+use Rattle.rules.specs.Searches.{end_row}
+use Rattle.answers.proofs.Writes.{sent-length, sent-buffer, written-short}
+use Rattle.leasing.proofs.Ways.{until-below, extension_ranges, extension-length, extended, not_extended}
+use Rattle.leasing.proofs.extend.Goals as goal
+
+pub overflow_cast-sent : goal.overflow_cast-sent
+overflow_cast-sent c = omega (arith, written-short _ _ _ c.svsc_write_extension_granted-sent.ensures)
+
+pub returns-then-row-end_row : goal.returns-then-row-end_row
+returns-then-row-end_row c cs c =
+    let s = c.before.before.before.before.before.before.before.before.before.before.before.before.before.before.before.before.before in
+    let a = s.args in
+    let made = c.before.before.before.before.before.before.before.before.before.before.lease-end in
+    let until = made.result in
+    let low : until < 2 ^ 64 = rw made.ensures (until-below a.allowances.now a.time s.requires.timely) in
+    let room : length (encode (extension_granted until)) ≤ length a.reply.now = omega (arith, extension-length until, s.requires.room) in
+    let wrote = c.before.before.before.before.svsc-write-extension-granted.ensures in
+    let below : a.row < end_row (partner_of a.c) = omega (arith, c.before.before.before.before.before.before.before.before.before.before.before.if1.true, c.before.before.before.before.before.before.before.before.before.before.before.before.End-row.ensures, ap end_row c.before.before.before.before.before.before.before.before.before.before.before.before.before.partner-of.ensures) in
+    extended cs a.leases.now a.allowances.now a.reply.now c a.time a.c _ until _ _ _ _ below
+    made.ensures c.before.before.before.before.before.before.before.before.extend.ensures (sent-length (extension_granted until) a.reply.now _ wrote (extension_ranges until low) room)
+    (sent-buffer (extension_granted until) a.reply.now _ wrote (extension_ranges until low) room) c.replied.ensures
+
+pub overflow_cast-sent-2 : goal.overflow_cast-sent-2
+overflow_cast-sent-2 c = omega (arith, written-short _ _ _ c.svsc_write_extension_refused-sent.ensures)
+
+pub returns : goal.returns
+unfolding well_formed encode
+returns c cs c =
+    let s = c.before.before.before.before.before.before.before.before.before.before.before.before in
+    let a = s.args in
+    let wrote = c.before.before.before.before.svsc-write-extension-refused.ensures in
+    let past : end_row (partner_of a.c) ≤ a.row = omega (arith, c.before.before.before.before.before.before.if1.false, c.before.before.before.before.before.before.before.End-row.ensures, ap end_row c.before.before.before.before.before.before.before.before.partner-of.ensures) in
+    not_extended cs a.leases.now a.allowances.now a.reply.now c a.time a.c _ _ _ _ past
+    (sent-length extension_refused a.reply.now _ wrote refl (omega (arith, s.requires.room))) (sent-buffer extension_refused a.reply.now _ wrote refl (omega (arith, s.requires.room))) c.replied2.ensures

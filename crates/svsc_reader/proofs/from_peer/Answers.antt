@@ -1,0 +1,10 @@
+-- `from_peer`: a message of a type that peers send.
+use mathlib.Core.Path.{sym, ◌∙◌}
+use Rattle.svsc_reader.proofs.Peers.{peer-sends, not-sent}
+use Rattle.svsc_reader.proofs.from_peer.Goals as goal
+
+pub returns-then-is_message : goal.returns-then-is_message
+returns-then-is_message c = peer-sends c.args.m.now c.byte.result _ (sym c.is_message.ensures ∙ c.if-is_message.true) c.byte.ensures c.sent_by_peers.ensures
+
+pub returns : goal.returns
+returns c = not-sent c.args.m.now (sym c.is_message.ensures ∙ c.if-is_message.false)
