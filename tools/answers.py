@@ -80,7 +80,7 @@ class Lts:
         best = None
         if arm:
             for new, old, path in arm[2]:
-                if plain(old) == plain(bare) and path and steps[: len(path)] == path:
+                if plain(old) == plain(bare) and steps[: len(path)] == path:
                     if best is None or len(path) > len(best[1]):
                         best = (new, path)
             if best:
@@ -109,7 +109,7 @@ TOKEN = re.compile(r"(?:" + NAME + r")(?:\.(?:" + NAME + r"))*|\s+|.", re.S)
 
 def turned(text, lts, env):
     """The text of an answer with each path from a place's variable written anew. env: variable -> place."""
-    out, i = [], 0
+    out, args_names = [], set()
     env = dict(env)
     tokens = TOKEN.findall(text)
     k = 0
@@ -146,6 +146,8 @@ def turned(text, lts, env):
                             k += 1
                         continue
                 env.pop(name, None)
+                if re.search(r"\.args$", path):
+                    args_names.add(name)
         if m and m[1] in env:
             place = env[m[1]]
             rest = m[2][1:].split(".") if m[2] else []
@@ -161,11 +163,21 @@ def turned(text, lts, env):
                     lts.said.append(f"{t}: no step {rest[0]} at {lts.places[place][0]}")
                     out.append("c." + ".".join(rest))
                 else:
-                    out.append("c." + ".".join(new))
+                    if new[0] == "args":
+                        new = [new[0]] + [f.replace("-", "_") for f in new[1:2]] + new[2:]
+                    out.append("c." + ".".join(FIELDS.get(f, f) for f in new))
+        elif m and m[2]:
+            if m[1] in args_names:
+                out.append(m[1] + m[2].replace("-", "_"))
+            else:
+                out.append(m[1] + "".join("." + FIELDS.get(f, f) for f in m[2][1:].split(".")))
         else:
             out.append(t)
         k += 1
     return "".join(out)
+
+
+FIELDS = {}
 
 
 class Unit:
@@ -302,10 +314,10 @@ def convert(crate_root, crate, path, of, rel):
             if not args:
                 lts.said.append(f"{name}: no argument")
                 continue
-            env = {args[-1]: place}
-            new_body = turned(body, lts, env)
-            extra = args[:-1]
-            ans.append("\n".join(comment) + ("\n" if comment else "") + f"pub {goal} : goal.{goal}\n{b['unf']}{goal} {' '.join(extra + ['c'])} ={new_body}")
+            var = "c" if "c" in args else args[0]
+            new_body = turned(body, lts, {var: place})
+            names = " ".join("c" if a == var else a for a in args)
+            ans.append("\n".join(comment) + ("\n" if comment else "") + f"pub {goal} : goal.{goal}\n{b['unf']}{goal} {names} ={new_body}")
             continue
         helpers.append("\n".join(u))
     folder = os.path.dirname(path)
@@ -352,6 +364,10 @@ def convert(crate_root, crate, path, of, rel):
 
 def main(argv):
     names = argv[0]
+    for line in open(os.environ["RESPELLED"], encoding="utf-8") if "RESPELLED" in os.environ else []:
+        old, new, *kinds = line.split()
+        if kinds and "field" in kinds[0].split(",") and "-" in old:
+            FIELDS[old] = new
     for crate in argv[1:]:
         root = os.path.join("crates", crate, "proofs")
         with open(os.path.join(names, crate, "names.json"), encoding="utf-8") as f:

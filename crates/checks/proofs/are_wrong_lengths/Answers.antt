@@ -4,4 +4,4 @@ use Rattle.checks.proofs.are_wrong_lengths.Goals as goal
 
 pub returns : goal.returns
 unfolding wrong_lengths
-returns c time k reply relay e c = rw (c.larger.ensures, e, c)
+returns c time k reply relay e f = rw (c.larger-least.ensures, e, f)

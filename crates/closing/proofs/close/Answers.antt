@@ -3,7 +3,7 @@ use Rattle.closing.proofs.Ways.{closed}
 use Rattle.closing.proofs.close.Goals as goal
 
 pub returns : goal.returns
-returns c al c =
-    let a = c.before.before.before.before.before.before.before.before.before.before.before.before.before.before.before.before.before.before.args in
-    closed a.connections.now a.leases.now al c a.relay.now _ _ _ _ a.c _ c.before.before.before.before.before.before.release.ensures c.before.before.clear.ensures
-    (c.before.before.before.before.before.before.before.before.before.before.before.before.end-if-any.ensures a.leases.now al c)
+returns c al reply =
+    let a = c.args in
+    closed a.connections.now a.leases.now al reply a.relay.now _ _ _ _ a.c _ c.release.ensures c.clear.ensures
+    (c.end_if_any-answer.ensures a.leases.now al reply)

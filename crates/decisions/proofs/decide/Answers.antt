@@ -13,7 +13,7 @@ returns-in-VersionAnswer c =
 pub returns-in-LeaseRequest : goal.returns-in-LeaseRequest
 returns-in-LeaseRequest c =
     let a = c.args in
-    lease-decides a.connections.now a.leases.now a.time a.c a.other a.random.now a.m.now c.read-d.result c.read-d.ensures c.in-LeaseRequest.keys2 _
+    lease-decides a.connections.now a.leases.now a.time a.c a.other a.random.now a.m.now c.read-d.result c.read-d.ensures c.in-LeaseRequest.in-LeaseRequest-own.keys2 _
     (c.decide_lease-lease.ensures ∙ rw c.part-cookie.ensures)
 
 pub returns-in-ExtensionRequest : goal.returns-in-ExtensionRequest
@@ -45,4 +45,4 @@ returns-in-DataSend c =
 pub returns-in_default : goal.returns-in_default
 returns-in_default c =
     let a = c.args in
-    rest-decides a.connections.now a.leases.now a.time a.c a.other a.random.now a.m.now c.read-d.result c.read-d.ensures c.in_default.keys7
+    rest-decides a.connections.now a.leases.now a.time a.c a.other a.random.now a.m.now c.read-d.result c.read-d.ensures c.in_default.in_default-own.keys7

@@ -5,9 +5,9 @@ use Rattle.decisions.proofs.Ways.{sent-most, end-price, sum-price}
 use Rattle.decisions.proofs.price.Goals as goal
 
 pub returns-then-byte-eq9 : goal.returns-then-byte-eq9
-returns-then-byte-eq9 c c =
-    let a = c.before.before.before.args in
-    end-price a.c a.m.now c a.decision _ c.before.byte.ensures c.if1.true
+returns-then-byte-eq9 c random =
+    let a = c.args in
+    end-price a.c a.m.now random a.decision _ c.byte.ensures c.if-byte-eq9.true
 
 pub overflow_add-result-2 : goal.overflow_add-result-2
 overflow_add-result-2 c =
@@ -15,6 +15,6 @@ overflow_add-result-2 c =
     omega (arith, most, c.sent_bytes.ensures [], c.requires.2)
 
 pub returns : goal.returns
-returns c c =
-    let a = c.before.before.before.before.args in
-    sum-price a.c a.m.now c a.decision _ c.before.before.byte.ensures c.before.if1.false _ (c.sent-bytes.ensures c)
+returns c random =
+    let a = c.args in
+    sum-price a.c a.m.now random a.decision _ c.byte.ensures c.if-byte-eq9.false _ (c.sent_bytes.ensures random)

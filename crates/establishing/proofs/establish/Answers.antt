@@ -5,16 +5,16 @@ use Rattle.establishing.proofs.establish.Goals as goal
 pub refuse-requires : goal.refuse-requires
 refuse-requires c =
     let range = status_in c.args.decision c.in-RefusedWith.is c.requires.1 in
-    (range.0, range.1, c.requires.0.reply-room)
+    (range.0, range.1, c.requires.0.reply_room)
 
 pub returns-in-RefusedWith : goal.returns-in-RefusedWith
-returns-in-RefusedWith c ls c =
-    let a = c.before.before.before.before.before.before.before.before.before.before.before.args in
-    as_decided a.connections.now ls c a.reply.now a.relay.now a.c a.id a.random.now a.decision c.before.before.before.before.before.decision.given.1
-    (c.before.before.refuse.ensures a.connections.now ls c a.random.now a.relay.now a.c)
+returns-in-RefusedWith c ls al =
+    let a = c.args in
+    as_decided a.connections.now ls al a.reply.now a.relay.now a.c a.id a.random.now a.decision c.in-RefusedWith.is
+    (c.refuse.ensures a.connections.now ls al a.random.now a.relay.now a.c)
 
 pub returns-in-EstablishedWith : goal.returns-in-EstablishedWith
-returns-in-EstablishedWith c ls c =
-    let a = c.before.before.before.before.before.before.before.before.before.before.before.before.before.before.before.before.before.args in
-    as_decided a.connections.now ls c a.reply.now a.relay.now a.c a.id a.random.now a.decision c.before.before.before.before.before.before.before.before.before.before.before.decision2.given.1
-    (c.before.before.before.before.before.before.join.ensures ls c)
+returns-in-EstablishedWith c ls al =
+    let a = c.args in
+    as_decided a.connections.now ls al a.reply.now a.relay.now a.c a.id a.random.now a.decision c.in-EstablishedWith.is
+    (c.join.ensures ls al)

@@ -9,8 +9,7 @@ pub overflow_cast-sent : goal.overflow_cast-sent
 overflow_cast-sent c = omega (arith, written-short _ _ _ c.svsc_write_establish_refused-sent.ensures)
 
 pub returns : goal.returns
-returns c cs ls al random relay c =
-    let s = c.before.before.before.before.before.before.before in
-    session_refused cs ls al s.args.reply.now relay c s.args.id random s.args.status _ _ _ (sent-length (establish_refused s.args.id s.args.status) s.args.reply.now _ c.before.before.before.before.svsc-write-establish-refused.ensures
-    (status_ranges s.args.id s.args.status s.ranges.id.fits s.requires.0 s.requires.1) (omega (arith, s.requires.2, status_length s.args.id s.args.status))) (sent-buffer (establish_refused s.args.id s.args.status) s.args.reply.now _ c.before.before.before.before.svsc-write-establish-refused.ensures
-    (status_ranges s.args.id s.args.status s.ranges.id.fits s.requires.0 s.requires.1) (omega (arith, s.requires.2, status_length s.args.id s.args.status))) c.replied.ensures
+returns c cs ls al random relay k =
+    session_refused cs ls al c.args.reply.now relay k c.args.id random c.args.status _ _ _ (sent-length (establish_refused c.args.id c.args.status) c.args.reply.now _ c.svsc_write_establish_refused-sent.ensures
+    (status_ranges c.args.id c.args.status c.ranges.id.fits c.requires.0 c.requires.1) (omega (arith, c.requires.2, status_length c.args.id c.args.status))) (sent-buffer (establish_refused c.args.id c.args.status) c.args.reply.now _ c.svsc_write_establish_refused-sent.ensures
+    (status_ranges c.args.id c.args.status c.ranges.id.fits c.requires.0 c.requires.1) (omega (arith, c.requires.2, status_length c.args.id c.args.status))) c.replied.ensures

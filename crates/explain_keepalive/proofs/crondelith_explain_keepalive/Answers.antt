@@ -7,11 +7,10 @@ use Rattle.reasons.proofs.Ways.{nothing_asked_lem, free_way}
 use Rattle.explain_keepalive.proofs.crondelith_explain_keepalive.Goals as goal
 
 pub returns : goal.returns
-returns c reply relay long c =
-    let s = c.before.before.before.before.before.before in
-    let tables = lent s.args.connections.now s.args.leases.now s.args.allowances.now in
-    let call = keepalive s.args.time s.args.connection reply relay in
-    c.without-headroom.ensures
-    ∙ rw c.before.nothing-named.ensures
-    (free_way tables call _ (c.before.before.refusal.ensures reply relay long c) refl _
-    (nothing_asked_lem tables call c.before.before.refusal.result (unfold asked in refl)))
+returns c reply relay long long2 =
+    let tables = lent c.args.connections.now c.args.leases.now c.args.allowances.now in
+    let call = keepalive c.args.time c.args.connection reply relay in
+    c.without_headroom.ensures
+    ∙ rw c.nothing_named.ensures
+    (free_way tables call _ (c.refusal-check.ensures reply relay long long2) refl _
+    (nothing_asked_lem tables call c.refusal-check.result (unfold asked in refl)))

@@ -9,35 +9,33 @@ use Rattle.explain_message.proofs.Ways.{message_passed}
 use Rattle.explain_message.proofs.crondelith_explain_message.Goals as goal
 
 pub returns-then-is_stopped : goal.returns-then-is_stopped
-returns-then-is_stopped c reply relay n c =
-    let s = c.before.before.before.before in
-    let a = s.before.before.before.before.before.before.args in
+returns-then-is_stopped c reply relay n l =
+    let a = c.args in
     let tables = lent a.connections.now a.leases.now a.allowances.now in
     let call = message a.time a.connection a.m.now a.random.now reply relay in
-    let e = assessed-number tables a.time a.connection a.m.now a.random.now reply relay s.assess.result (s.assess.ensures reply relay n c) in
-    c.without-headroom.ensures
-    ∙ rw c.before.nothing-named.ensures (stopped_way tables call _ e (sym c.before.before.before.is-stopped.ensures ∙ c.before.before.if1.true))
+    let e = assessed-number tables a.time a.connection a.m.now a.random.now reply relay c.assess-assessment.result (c.assess-assessment.ensures reply relay n l) in
+    c.without_headroom.ensures
+    ∙ rw c.nothing_named.ensures (stopped_way tables call _ e (sym c.is_stopped.ensures ∙ c.if-is_stopped.true))
 
 pub overflow_cast-connection : goal.overflow_cast-connection
 overflow_cast-connection c =
     let a = c.args in
     let tables = lent a.connections.now a.leases.now a.allowances.now in
-    omega (arith, (message_passed tables a.time a.connection a.m.now a.random.now a.reply-length a.relay-length c.assess-assessment.result c.assess-assessment.ensures (sym c.is_stopped.ensures ∙ c.if-is_stopped.false)).connection)
+    omega (arith, (message_passed tables a.time a.connection a.m.now a.random.now a.reply_length a.relay_length c.assess-assessment.result c.assess-assessment.ensures (sym c.is_stopped.ensures ∙ c.if-is_stopped.false)).connection)
 
 pub judged-requires : goal.judged-requires
 judged-requires c =
     let a = c.args in
     let tables = lent a.connections.now a.leases.now a.allowances.now in
-    let ok = message_passed tables a.time a.connection a.m.now a.random.now a.reply-length a.relay-length c.assess-assessment.result c.assess-assessment.ensures (sym c.is_stopped.ensures ∙ c.if-is_stopped.false) in
-    (ok.allowances, ok.connection, ok.price-most)
+    let ok = message_passed tables a.time a.connection a.m.now a.random.now a.reply_length a.relay_length c.assess-assessment.result c.assess-assessment.ensures (sym c.is_stopped.ensures ∙ c.if-is_stopped.false) in
+    (ok.allowances, ok.connection, ok.price_most)
 
 pub returns : goal.returns
-returns c reply relay n c =
-    let s = c.before.before.before in
-    let a = s.before.before.before.before.before.before.args in
+returns c reply relay n l =
+    let a = c.args in
     let tables = lent a.connections.now a.leases.now a.allowances.now in
     let call = message a.time a.connection a.m.now a.random.now reply relay in
-    let all = s.assess.ensures reply relay n c in
-    let e = assessed-number tables a.time a.connection a.m.now a.random.now reply relay s.assess.result all in
+    let all = c.assess-assessment.ensures reply relay n l in
+    let e = assessed-number tables a.time a.connection a.m.now a.random.now reply relay c.assess-assessment.result all in
     c.judged.ensures a.connections.now a.leases.now a.random.now reply relay all
-    (first-eight_passed tables call _ e (sym c.before.before.is-stopped.ensures ∙ c.before.if1.false))
+    (first-eight_passed tables call _ e (sym c.is_stopped.ensures ∙ c.if-is_stopped.false))

@@ -11,14 +11,14 @@ use Rattle.explain_message.proofs.Ways.{message-free, message-charged, decided-i
 use Rattle.explain_message.proofs.judged.Goals as goal
 
 pub returns-then-byte-eq9 : goal.returns-then-byte-eq9
-returns-then-byte-eq9 c cs ls random reply relay all c =
-    let a = c.before.before.before.before.before.before.args in
+returns-then-byte-eq9 c cs ls random reply relay all h =
+    let a = c.args in
     let tables = lent cs ls a.allowances.now in
     let call = message a.time a.c a.m.now random reply relay in
     let e = assessed-number tables a.time a.c a.m.now random reply relay a.assessment all in
-    c.without-headroom.ensures
-    ∙ free_way tables call _ e (message-free a.time a.c a.m.now random reply relay _ c.before.before.byte.ensures c.before.if1.true) _
-    (decided-is tables a.time a.c a.m.now random reply relay a.assessment all c _ (c.before.before.before.decided.ensures a.m.now random))
+    c.without_headroom.ensures
+    ∙ free_way tables call _ e (message-free a.time a.c a.m.now random reply relay _ c.byte.ensures c.if-byte-eq9.true) _
+    (decided-is tables a.time a.c a.m.now random reply relay a.assessment all h _ (c.decided-named.ensures a.m.now random))
 
 pub with_headroom-requires : goal.with_headroom-requires
 with_headroom-requires c =
@@ -26,13 +26,13 @@ with_headroom-requires c =
 
 pub returns : goal.returns
 unfolding caller_level
-returns c cs ls random reply relay all c =
-    let a = c.before.before.before.before.before.before.before.before.args in
+returns c cs ls random reply relay all h =
+    let a = c.args in
     let tables = lent cs ls a.allowances.now in
     let call = message a.time a.c a.m.now random reply relay in
     let e = assessed-number tables a.time a.c a.m.now random reply relay a.assessment all in
-    c.with-headroom.ensures
-    ∙ charged_way tables call _ e c (message-charged a.time a.c a.m.now random reply relay _ c.before.before.before.before.byte.ensures c.before.before.before.if1.false) _
-    (decided-is tables a.time a.c a.m.now random reply relay a.assessment all c _ (c.before.before.before.before.before.decided.ensures a.m.now random)) _ _
-    (c.before.level.ensures ∙ rw c.before.before.partner-of.ensures)
-    (assessed-price tables a.time a.c a.m.now random reply relay a.assessment all c)
+    c.with_headroom.ensures
+    ∙ charged_way tables call _ e h (message-charged a.time a.c a.m.now random reply relay _ c.byte.ensures c.if-byte-eq9.false) _
+    (decided-is tables a.time a.c a.m.now random reply relay a.assessment all h _ (c.decided-named.ensures a.m.now random)) _ _
+    (c.level-level.ensures ∙ rw c.partner_of.ensures)
+    (assessed-price tables a.time a.c a.m.now random reply relay a.assessment all h)

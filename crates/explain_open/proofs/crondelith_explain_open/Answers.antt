@@ -12,25 +12,24 @@ use Rattle.explain_open.proofs.Ways.{open_passed}
 use Rattle.explain_open.proofs.crondelith_explain_open.Goals as goal
 
 pub returns-then-is_stopped : goal.returns-then-is_stopped
-returns-then-is_stopped c reply c =
-    let s = c.before.before.before.before.before.before.before.before in
-    let tables = lent s.args.connections.now s.args.leases.now s.args.allowances.now in
-    let call = opening s.args.time s.args.connection reply in
-    c.without-headroom.ensures
-    ∙ rw c.before.before.before.nothing-named.ensures
-    (stopped_way tables call _ (c.before.before.before.before.refusal.ensures reply c) (sym c.before.before.is-stopped.ensures ∙ c.before.if1.true))
+returns-then-is_stopped c reply long =
+    let tables = lent c.args.connections.now c.args.leases.now c.args.allowances.now in
+    let call = opening c.args.time c.args.connection reply in
+    c.without_headroom.ensures
+    ∙ rw c.nothing_named-nothing.ensures
+    (stopped_way tables call _ (c.refusal-check.ensures reply long) (sym c.is_stopped.ensures ∙ c.if-is_stopped.true))
 
 pub overflow_cast-connection : goal.overflow_cast-connection
 overflow_cast-connection c =
     let tables = lent c.args.connections.now c.args.leases.now c.args.allowances.now in
-    let ok = open_passed tables c.args.time c.args.connection c.args.reply-length _ c.refusal-check.ensures (sym c.is_stopped.ensures ∙ c.if-is_stopped.false) in
+    let ok = open_passed tables c.args.time c.args.connection c.args.reply_length _ c.refusal-check.ensures (sym c.is_stopped.ensures ∙ c.if-is_stopped.false) in
     omega (arith, ok.known)
 
 pub level-level-requires : goal.level-level-requires
 level-level-requires c =
     let tables = lent c.args.connections.now c.args.leases.now c.args.allowances.now in
-    let ok = open_passed tables c.args.time c.args.connection c.args.reply-length _ c.refusal-check.ensures (sym c.is_stopped.ensures ∙ c.if-is_stopped.false) in
-    (ok.allowances, omega (arith, ok.of-partner))
+    let ok = open_passed tables c.args.time c.args.connection c.args.reply_length _ c.refusal-check.ensures (sym c.is_stopped.ensures ∙ c.if-is_stopped.false) in
+    (ok.allowances, omega (arith, ok.of_partner))
 
 pub with_headroom-requires : goal.with_headroom-requires
 with_headroom-requires c =
@@ -38,13 +37,12 @@ with_headroom-requires c =
 
 pub returns : goal.returns
 unfolding caller_level
-returns c reply c =
-    let s = c.before.before.before.before.before.before.before.before.before.before in
-    let tables = lent s.args.connections.now s.args.leases.now s.args.allowances.now in
-    let call = opening s.args.time s.args.connection reply in
-    let e = c.before.before.before.before.before.before.refusal.ensures reply c in
-    c.with-headroom.ensures
-    ∙ rw c.before.before.before.before.before.nothing-named.ensures
+returns c reply long =
+    let tables = lent c.args.connections.now c.args.leases.now c.args.allowances.now in
+    let call = opening c.args.time c.args.connection reply in
+    let e = c.refusal-check.ensures reply long in
+    c.with_headroom.ensures
+    ∙ rw c.nothing_named-nothing.ensures
     (charged_way tables call _ e
-    (first-eight_passed tables call _ e (sym c.before.before.before.before.is-stopped.ensures ∙ c.before.before.before.if1.false)) refl _ (nothing_asked_lem tables call c.before.before.before.before.before.before.refusal.result (unfold asked in refl)) _ _
-    (c.before.level.ensures ∙ rw c.before.before.partner-of.ensures) (sym ((prices tables).open-price s.args.time s.args.connection reply)))
+    (first-eight_passed tables call _ e (sym c.is_stopped.ensures ∙ c.if-is_stopped.false)) refl _ (nothing_asked_lem tables call c.refusal-check.result (unfold asked in refl)) _ _
+    (c.level-level.ensures ∙ rw c.partner_of-partner.ensures) (sym ((prices tables).open-price c.args.time c.args.connection reply)))

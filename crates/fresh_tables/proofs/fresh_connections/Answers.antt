@@ -6,4 +6,4 @@ use Rattle.fresh_tables.proofs.fresh_connections.Goals as goal
 
 pub returns : goal.returns
 unfolding fresh
-returns c t c = filled c.before.before.before.before.before.before.args.connections.now _ _ connection_count c.before.before.before.before.before.before.requires c.before.before.fill-records.ensures
+returns c t term = filled c.args.connections.now _ _ connection_count c.requires c.fill_records.ensures

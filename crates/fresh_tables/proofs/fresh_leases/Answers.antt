@@ -6,4 +6,4 @@ use Rattle.fresh_tables.proofs.fresh_leases.Goals as goal
 
 pub returns : goal.returns
 unfolding fresh
-returns c t c = filled c.before.before.before.before.before.before.args.leases.now _ _ row_count c.before.before.before.before.before.before.requires c.before.before.fill-records.ensures
+returns c t term = filled c.args.leases.now _ _ row_count c.requires c.fill_records.ensures

@@ -9,7 +9,7 @@ tell-requires c =
     (c.requires.0.room, rw c.part-cookie.ensures (length_part c.args.random.now 0 24 (omega (arith, c.requires.1))))
 
 pub returns : goal.returns
-returns c cs c =
-    let a = c.before.before.before.before.before.before.before.before.before.before.before.before.before.before.args in
-    lease-given cs a.leases.now a.allowances.now a.reply.now c a.time a.c a.row _ a.id _ _ c.before.before.before.before.before.before.before.before.before.lease-end.ensures (c.before.before.tell.ensures cs _ c)
-    a.random.now c.before.before.before.before.before.before.before.before.part.ensures c.before.before.before.before.before.before.grant.ensures
+returns c cs relay =
+    let a = c.args in
+    lease-given cs a.leases.now a.allowances.now a.reply.now relay a.time a.c a.row _ a.id _ _ c.lease_end-until.ensures (c.tell.ensures cs _ relay)
+    a.random.now c.part-cookie.ensures c.grant.ensures

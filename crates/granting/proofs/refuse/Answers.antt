@@ -11,5 +11,5 @@ overflow_cast-sent c = omega (arith, written-short _ _ _ c.svsc_write_lease_refu
 
 pub returns : goal.returns
 unfolding well_formed encode
-returns c cs ls al c =
-    lease-refused cs ls al c.before.before.before.before.before.before.before.args.reply.now c 0 0 _ _ _ (sent-length lease_refused c.before.before.before.before.before.before.before.args.reply.now _ c.before.before.before.before.svsc-write-lease-refused.ensures refl (omega (arith, c.before.before.before.before.before.before.before.requires))) (sent-buffer lease_refused c.before.before.before.before.before.before.before.args.reply.now _ c.before.before.before.before.svsc-write-lease-refused.ensures refl (omega (arith, c.before.before.before.before.before.before.before.requires))) c.replied.ensures
+returns c cs ls al relay =
+    lease-refused cs ls al c.args.reply.now relay 0 0 _ _ _ (sent-length lease_refused c.args.reply.now _ c.svsc_write_lease_refused-sent.ensures refl (omega (arith, c.requires))) (sent-buffer lease_refused c.args.reply.now _ c.svsc_write_lease_refused-sent.ensures refl (omega (arith, c.requires))) c.replied.ensures

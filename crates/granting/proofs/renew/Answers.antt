@@ -8,7 +8,7 @@ tell-answer-requires c =
     (s.requires.0.room, rw c.cookie_of.ensures (cookie-length s.args.leases.now s.args.row s.requires.0.size s.requires.1))
 
 pub returns : goal.returns
-returns c cs c =
-    let a = c.before.before.before.before.before.before.before.before.before.before.before.before.before.before.before.before.args in
-    lease-renewed cs a.leases.now a.allowances.now a.reply.now c a.time a.c a.row _ _ _ _ c.before.before.before.before.before.before.before.before.before.before.before.before.lease-end.ensures (c.before.before.before.before.before.before.tell.ensures cs _ c)
-    c.before.before.before.before.before.before.before.before.before.before.id-of.ensures c.before.before.before.before.before.before.before.cookie-of.ensures c.before.before.renew.ensures
+returns c cs relay =
+    let a = c.args in
+    lease-renewed cs a.leases.now a.allowances.now a.reply.now relay a.time a.c a.row _ _ _ _ c.lease_end-until.ensures (c.tell-answer.ensures cs _ relay)
+    c.id_of-id.ensures c.cookie_of.ensures c.renew.ensures

@@ -12,15 +12,14 @@ pub overflow_cast-sent : goal.overflow_cast-sent
 overflow_cast-sent c = omega (arith, written-short _ _ _ c.svsc_write_lease_granted-sent.ensures)
 
 pub returns : goal.returns
-returns c cs ls c =
-    let s = c.before.before.before.before.before.before.before.before in
-    let a = s.args in
+returns c cs ls relay =
+    let a = c.args in
     let cookie = a.cookie.now in
-    let bytes = cookie-bytes cookie (λ i. omega (arith, c.before.before.before.before.before.before.shared-slice-known.given i)) s.requires.1 in
-    let ranges = lease_ranges a.id cookie a.until s.ranges.id.fits bytes s.ranges.until.fits in
-    let room : length (encode (lease_granted a.id cookie a.until)) ≤ length a.reply.now = omega (arith, lease-length a.id cookie a.until s.requires.1, s.requires.0) in
-    let wrote = c.before.before.before.before.svsc-write-lease-granted.ensures in
-    lease-told cs ls [] a.reply.now c 0 0 a.id a.until _ cookie _ _
+    let bytes = cookie-bytes cookie (λ i. omega (arith, c.type_inv.cookie i)) c.requires.1 in
+    let ranges = lease_ranges a.id cookie a.until c.ranges.id.fits bytes c.ranges.until.fits in
+    let room : length (encode (lease_granted a.id cookie a.until)) ≤ length a.reply.now = omega (arith, lease-length a.id cookie a.until c.requires.1, c.requires.0) in
+    let wrote = c.svsc_write_lease_granted-sent.ensures in
+    lease-told cs ls [] a.reply.now relay 0 0 a.id a.until _ cookie _ _
     (sent-length (lease_granted a.id cookie a.until) a.reply.now _ wrote ranges room)
     (sent-buffer (lease_granted a.id cookie a.until) a.reply.now _ wrote ranges room)
     c.replied.ensures

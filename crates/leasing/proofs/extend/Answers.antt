@@ -14,17 +14,16 @@ pub overflow_cast-sent : goal.overflow_cast-sent
 overflow_cast-sent c = omega (arith, written-short _ _ _ c.svsc_write_extension_granted-sent.ensures)
 
 pub returns-then-row-end_row : goal.returns-then-row-end_row
-returns-then-row-end_row c cs c =
-    let s = c.before.before.before.before.before.before.before.before.before.before.before.before.before.before.before.before.before in
-    let a = s.args in
-    let made = c.before.before.before.before.before.before.before.before.before.before.lease-end in
+returns-then-row-end_row c cs relay =
+    let a = c.args in
+    let made = c.lease_end-until in
     let until = made.result in
-    let low : until < 2 ^ 64 = rw made.ensures (until-below a.allowances.now a.time s.requires.timely) in
-    let room : length (encode (extension_granted until)) ≤ length a.reply.now = omega (arith, extension-length until, s.requires.room) in
-    let wrote = c.before.before.before.before.svsc-write-extension-granted.ensures in
-    let below : a.row < end_row (partner_of a.c) = omega (arith, c.before.before.before.before.before.before.before.before.before.before.before.if1.true, c.before.before.before.before.before.before.before.before.before.before.before.before.End-row.ensures, ap end_row c.before.before.before.before.before.before.before.before.before.before.before.before.before.partner-of.ensures) in
-    extended cs a.leases.now a.allowances.now a.reply.now c a.time a.c _ until _ _ _ _ below
-    made.ensures c.before.before.before.before.before.before.before.before.extend.ensures (sent-length (extension_granted until) a.reply.now _ wrote (extension_ranges until low) room)
+    let low : until < 2 ^ 64 = rw made.ensures (until-below a.allowances.now a.time c.requires.timely) in
+    let room : length (encode (extension_granted until)) ≤ length a.reply.now = omega (arith, extension-length until, c.requires.room) in
+    let wrote = c.svsc_write_extension_granted-sent.ensures in
+    let below : a.row < end_row (partner_of a.c) = omega (arith, c.if-row-end_row.true, c.end_row.ensures, ap end_row c.partner_of.ensures) in
+    extended cs a.leases.now a.allowances.now a.reply.now relay a.time a.c _ until _ _ _ _ below
+    made.ensures c.extend.ensures (sent-length (extension_granted until) a.reply.now _ wrote (extension_ranges until low) room)
     (sent-buffer (extension_granted until) a.reply.now _ wrote (extension_ranges until low) room) c.replied.ensures
 
 pub overflow_cast-sent-2 : goal.overflow_cast-sent-2
@@ -32,10 +31,9 @@ overflow_cast-sent-2 c = omega (arith, written-short _ _ _ c.svsc_write_extensio
 
 pub returns : goal.returns
 unfolding well_formed encode
-returns c cs c =
-    let s = c.before.before.before.before.before.before.before.before.before.before.before.before in
-    let a = s.args in
-    let wrote = c.before.before.before.before.svsc-write-extension-refused.ensures in
-    let past : end_row (partner_of a.c) ≤ a.row = omega (arith, c.before.before.before.before.before.before.if1.false, c.before.before.before.before.before.before.before.End-row.ensures, ap end_row c.before.before.before.before.before.before.before.before.partner-of.ensures) in
-    not_extended cs a.leases.now a.allowances.now a.reply.now c a.time a.c _ _ _ _ past
-    (sent-length extension_refused a.reply.now _ wrote refl (omega (arith, s.requires.room))) (sent-buffer extension_refused a.reply.now _ wrote refl (omega (arith, s.requires.room))) c.replied2.ensures
+returns c cs relay =
+    let a = c.args in
+    let wrote = c.svsc_write_extension_refused-sent.ensures in
+    let past : end_row (partner_of a.c) ≤ a.row = omega (arith, c.if-row-end_row.false, c.end_row.ensures, ap end_row c.partner_of.ensures) in
+    not_extended cs a.leases.now a.allowances.now a.reply.now relay a.time a.c _ _ _ _ past
+    (sent-length extension_refused a.reply.now _ wrote refl (omega (arith, c.requires.room))) (sent-buffer extension_refused a.reply.now _ wrote refl (omega (arith, c.requires.room))) c.replied-2.ensures

@@ -6,9 +6,9 @@ use Rattle.message_refusal.proofs.MessageStops.{three-found, own-found, session_
 use Rattle.message_refusal.proofs.first_eight.Goals as goal
 
 pub returns-then-first-ne0 : goal.returns-then-first-ne0
-returns-then-first-ne0 c reply relay n c =
-    let a = c.before.before.before.before.before.before.before.args in
-    three-found (lent a.connections.now a.leases.now a.allowances.now) a.time a.connection a.m.now a.random.now reply relay _ c.before.first_three.ensures c.if1.true
+returns-then-first-ne0 c reply relay n l =
+    let a = c.args in
+    three-found (lent a.connections.now a.leases.now a.allowances.now) a.time a.connection a.m.now a.random.now reply relay _ c.first_three-first.ensures c.if-first-ne0.true
 
 pub overflow_cast-c : goal.overflow_cast-c
 overflow_cast-c c =
@@ -17,14 +17,11 @@ overflow_cast-c c =
     omega arith
 
 pub returns-then-own-ne0 : goal.returns-then-own-ne0
-returns-then-own-ne0 c reply relay n c =
-    let s = c.before.before in
-    let a = s.before.before.before.before.before.before.before.args in
-    own-found (lent a.connections.now a.leases.now a.allowances.now) a.time a.connection a.m.now a.random.now reply relay _ s.before.first_three.ensures s.if1.false _ (c.before.own-refusal.ensures a.time reply relay n c) c.if2.true
+returns-then-own-ne0 c reply relay n l =
+    let a = c.args in
+    own-found (lent a.connections.now a.leases.now a.allowances.now) a.time a.connection a.m.now a.random.now reply relay _ c.first_three-first.ensures c.if-first-ne0.false _ (c.own_refusal-own.ensures a.time reply relay n l) c.if-own-ne0.true
 
 pub returns : goal.returns
-returns c reply relay n c =
-    let t = c.before.before in
-    let s = t.before.before in
-    let a = s.before.before.before.before.before.before.before.args in
-    session_found (lent a.connections.now a.leases.now a.allowances.now) a.time a.connection a.m.now a.random.now reply relay _ s.before.first_three.ensures s.if1.false _ (t.before.own-refusal.ensures a.time reply relay n c) t.if2.false _ c.before.byte.ensures _ c.session.ensures
+returns c reply relay n l =
+    let a = c.args in
+    session_found (lent a.connections.now a.leases.now a.allowances.now) a.time a.connection a.m.now a.random.now reply relay _ c.first_three-first.ensures c.if-first-ne0.false _ (c.own_refusal-own.ensures a.time reply relay n l) c.if-own-ne0.false _ c.byte.ensures _ c.session.ensures

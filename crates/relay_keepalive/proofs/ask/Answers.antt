@@ -11,7 +11,7 @@ overflow_cast-sent c = omega (arith, written-short _ _ _ c.svsc_write_keepalive-
 
 pub returns : goal.returns
 unfolding well_formed encode
-returns c ls c =
-    let a = c.before.before.before.before.before.before.before.before.before.before.before.before.args in
-    asked a.connections.now ls a.reply.now c _ _ a.time a.c _ _ c.before.before.before.before.before.before.before.before.ask.ensures
-    (sent-length keepalive_message a.reply.now _ c.before.before.before.before.svsc-write-keepalive.ensures refl (omega (arith, c.before.before.before.before.before.before.before.before.before.before.before.before.requires))) (sent-buffer keepalive_message a.reply.now _ c.before.before.before.before.svsc-write-keepalive.ensures refl (omega (arith, c.before.before.before.before.before.before.before.before.before.before.before.before.requires))) c.replied.ensures
+returns c ls relay =
+    let a = c.args in
+    asked a.connections.now ls a.reply.now relay _ _ a.time a.c _ _ c.ask.ensures
+    (sent-length keepalive_message a.reply.now _ c.svsc_write_keepalive-sent.ensures refl (omega (arith, c.requires))) (sent-buffer keepalive_message a.reply.now _ c.svsc_write_keepalive-sent.ensures refl (omega (arith, c.requires))) c.replied.ensures

@@ -5,6 +5,6 @@ use Rattle.relay_keepalive.proofs.Ways.{ended}
 use Rattle.relay_keepalive.proofs.end.Goals as goal
 
 pub returns : goal.returns
-returns c al c =
-    let a = c.before.before.before.before.before.before.before.before.before.before.before.before.before.before.args in
-    ended (plan_close (lent a.connections.now a.leases.now al) a.c) _ _ c a.relay.now _ _ _ _ (c.before.before.before.before.before.before.before.close.ensures al c) c.disconnecting.ensures
+returns c al reply =
+    let a = c.args in
+    ended (plan_close (lent a.connections.now a.leases.now al) a.c) _ _ reply a.relay.now _ _ _ _ (c.close.ensures al reply) c.disconnecting.ensures

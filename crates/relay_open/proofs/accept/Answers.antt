@@ -11,8 +11,8 @@ overflow_cast-sent c = omega (arith, written-short _ _ _ c.svsc_write_version-se
 
 pub returns : goal.returns
 unfolding well_formed encode digits
-returns c c =
-    let a = c.before.before.before.before.before.before.before.before.before.before.before.before.before.before.before.before.before.before.before.before.before.args in
-    open_done a.connections.now c a.allowances.now a.reply.now _ _ _ _ a.time a.c _ _ c.before.before.before.before.before.before.before.before.before.before.before.before.before.before.before.before.await-version.ensures
-    c.before.before.sent.ensures c.before.before.before.before.before.before.before.before.before.before.before.before.pay.ensures
-    (sent-length (protocol_version 1 0) a.reply.now _ c.before.before.before.before.before.before.before.before.svsc-write-version.ensures refl (omega (arith, c.before.before.before.before.before.before.before.before.before.before.before.before.before.before.before.before.before.before.before.before.before.requires.1))) (sent-buffer (protocol_version 1 0) a.reply.now _ c.before.before.before.before.before.before.before.before.svsc-write-version.ensures refl (omega (arith, c.before.before.before.before.before.before.before.before.before.before.before.before.before.before.before.before.before.before.before.before.before.requires.1))) c.before.before.before.before.replied.ensures
+returns c ls =
+    let a = c.args in
+    open_done a.connections.now ls a.allowances.now a.reply.now _ _ _ _ a.time a.c _ _ c.await_version.ensures
+    c.sent.ensures c.pay.ensures
+    (sent-length (protocol_version 1 0) a.reply.now _ c.svsc_write_version-sent.ensures refl (omega (arith, c.requires.1))) (sent-buffer (protocol_version 1 0) a.reply.now _ c.svsc_write_version-sent.ensures refl (omega (arith, c.requires.1))) c.replied-answer.ensures

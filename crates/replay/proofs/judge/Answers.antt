@@ -18,9 +18,9 @@ pub shape_of-table-then-not-take : goal.shape_of-table-then-not-take
 shape_of-table-then-not-take c = ap length c.take.ensures.1 ∙ length_taken _ _ _ ∙ c.loop-place.invariant.1 ∙ sym c.requires
 
 pub returns-then-not-take : goal.returns-then-not-take
-returns-then-not-take c c =
+returns-then-not-take c al =
     rw c.contradicted.ensures
-    (ap (concluded c) (sym (c.before.before.before.before.before.before.before.loop.invariant.2 ∙ stops table_ledger _ _ _ c.before.before.before.before.before.before.loop-test.true (sym c.before.before.before.before.take.ensures.0 ∙ not-true c.before.before.before.before.take.result c.before.if1.true))))
+    (ap (concluded al) (sym (c.loop-place.invariant.2 ∙ stops table_ledger _ _ _ c.loop-place-test.true (sym c.take.ensures.0 ∙ not-true c.take.result c.if-not-take.true-raw))))
 
 pub overflow_add-place : goal.overflow_add-place
 overflow_add-place c = omega (arith, room table_ledger _ _ _ (sym c.take.ensures.0 ∙ not-false c.take.result c.if-not-take.false-raw))
@@ -42,4 +42,4 @@ pub shape_of-table : goal.shape_of-table
 shape_of-table c = c.loop-place.invariant.1 ∙ sym c.requires
 
 pub returns : goal.returns
-returns c c = rw c.agreed.ensures (ap (concluded c) (sym (c.before.before.loop.invariant.2 ∙ end-agrees table_ledger _ _ _ c.before.loop-test.false)))
+returns c al = rw c.agreed.ensures (ap (concluded al) (sym (c.loop-place.invariant.2 ∙ end-agrees table_ledger _ _ _ c.loop-place-test.false)))

@@ -19,10 +19,10 @@ pub shape_of-levels-then-not-turn : goal.shape_of-levels-then-not-turn
 shape_of-levels-then-not-turn c = ap (λ (s : Levels). length s.levels) c.take-turn.ensures.1 ∙ length_taken _ _ _ ∙ c.loop-place.invariant.1 ∙ sym c.requires
 
 pub returns-then-not-turn : goal.returns-then-not-turn
-returns-then-not-turn c al c =
-    let e = c.before.before.before.before.before.take.ensures in
-    let named = stops plain_ledger _ _ _ c.before.before.before.before.before.before.before.loop-test.true (sym e.0 ∙ not-true c.before.before.before.before.before.take.result.passed c.before.if1.true) in
-    rw c.contradicted.ensures (ap (λ (v : Verdict Levels). concluded al (as_table c v)) (sym (c.before.before.before.before.before.before.before.before.loop.invariant.2 ∙ named)))
+returns-then-not-turn c al term =
+    let e = c.take-turn.ensures in
+    let named = stops plain_ledger _ _ _ c.loop-place-test.true (sym e.0 ∙ not-true c.take-turn.result.passed c.if-not-turn.true) in
+    rw c.contradicted.ensures (ap (λ (v : Verdict Levels). concluded al (as_table term v)) (sym (c.loop-place.invariant.2 ∙ named)))
 
 pub overflow_add-place : goal.overflow_add-place
 overflow_add-place c = omega (arith, room plain_ledger _ _ _ (sym c.take-turn.ensures.0 ∙ not-false c.take-turn.result.passed c.if-not-turn.false))
@@ -44,6 +44,6 @@ pub shape_of-levels : goal.shape_of-levels
 shape_of-levels c = c.loop-place.invariant.1 ∙ sym c.requires
 
 pub returns : goal.returns
-returns c al c =
+returns c al term =
     rw c.agreed.ensures
-    (ap (λ (v : Verdict Levels). concluded al (as_table c v)) (sym (c.before.before.loop.invariant.2 ∙ end-agrees plain_ledger _ _ _ c.before.loop-test.false)))
+    (ap (λ (v : Verdict Levels). concluded al (as_table term v)) (sym (c.loop-place.invariant.2 ∙ end-agrees plain_ledger _ _ _ c.loop-place-test.false)))

@@ -19,9 +19,8 @@ overflow_cast-sent c = omega (arith, written-short _ _ _ c.svsc_write_session_en
 
 pub returns : goal.returns
 unfolding well_formed encode
-returns c ls al c =
-    let s = c.before.before.before.before.before.before.before.before.before.before.before.before in
-    let wrote = c.before.before.before.before.svsc-write-session-end-notification.ensures in
-    ended s.args.connections.now ls al c s.args.relay.now s.args.c _ _ _ _ _ c.before.before.before.before.before.before.before.before.end-session.ensures
-    (sent-length session_end_notification s.args.relay.now _ wrote refl (omega (arith, s.requires)))
-    (sent-buffer session_end_notification s.args.relay.now _ wrote refl (omega (arith, s.requires))) c.relayed.ensures
+returns c ls al reply =
+    let wrote = c.svsc_write_session_end_notification-sent.ensures in
+    ended c.args.connections.now ls al reply c.args.relay.now c.args.c _ _ _ _ _ c.end_session.ensures
+    (sent-length session_end_notification c.args.relay.now _ wrote refl (omega (arith, c.requires)))
+    (sent-buffer session_end_notification c.args.relay.now _ wrote refl (omega (arith, c.requires))) c.relayed.ensures

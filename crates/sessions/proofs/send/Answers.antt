@@ -8,8 +8,7 @@ overflow_cast-sent c =
     omega (arith, copied-short c.args.m.now c.args.relay.now _ c.requires c.after-bytes.ensures _ _ c.copy-sent.ensures)
 
 pub returns : goal.returns
-returns c cs ls al c =
-    let s = c.before.before.before.before.before.before.before.before in
-    sent_on cs ls al c s.args.relay.now _ _ _ _ _
-    (copied-whole s.args.m.now s.args.relay.now _ s.requires c.before.before.before.before.before.after.ensures _ _ c.before.before.before.copy.ensures)
+returns c cs ls al reply =
+    sent_on cs ls al reply c.args.relay.now _ _ _ _ _
+    (copied-whole c.args.m.now c.args.relay.now _ c.requires c.after-bytes.ensures _ _ c.copy-sent.ensures)
     c.relayed.ensures

@@ -10,4 +10,4 @@ returns-in-Malformed c = in_arm is_some _ c.args.m.now c.read-d.ensures _ _ c.in
 pub returns : goal.returns
 returns c =
     let m = c.args.m.now in
-    in_rest is_some c.read-d.result m c.read-d.ensures _ (is-message c.read-d.result m c.in_default.keys2)
+    in_rest is_some c.read-d.result m c.read-d.ensures _ (is-message c.read-d.result m c.in_default.in_default-own.keys2)

@@ -32,7 +32,7 @@ establish_response-requires c = type_first c.args.m.now 7 c.if-m-eq0.false c.in-
 
 pub plain-requires : goal.plain-requires
 plain-requires c =
-    let r = c.in_default.rest in (
+    let r = c.in_default.in_default-own.rest in (
       type_first c.args.m.now _ c.if-m-eq0.false refl,
       above_7 _ r.0.0.0.0.0.0.0.1 r.0.0.0.0.0.0.1 r.0.0.0.0.0.1 r.0.0.0.0.1 r.0.0.0.1 r.0.0.1 r.0.1 r.1,
     )

@@ -2,19 +2,19 @@
 use Rattle.explain_message.proofs.naming.condition_of.Goals as goal
 
 pub returns-in-HoldsLease : goal.returns-in-HoldsLease
-returns-in-HoldsLease c c = rw c.enum_told.given.1
+returns-in-HoldsLease c random = rw c.in-HoldsLease.is
 
 pub returns-in-NoSpareRow : goal.returns-in-NoSpareRow
-returns-in-NoSpareRow c c = rw c.enum-told2.given.1
+returns-in-NoSpareRow c random = rw c.in-NoSpareRow.is
 
 pub returns-in-CookieInUse : goal.returns-in-CookieInUse
-returns-in-CookieInUse c c = rw c.enum-told3.given.1
+returns-in-CookieInUse c random = rw c.in-CookieInUse.is
 
 pub returns-in-NoFreeId : goal.returns-in-NoFreeId
-returns-in-NoFreeId c c = rw c.enum-told4.given.1
+returns-in-NoFreeId c random = rw c.in-NoFreeId.is
 
 pub returns-in-Renewed : goal.returns-in-Renewed
-returns-in-Renewed c c = rw c.before.decision.given.1
+returns-in-Renewed c random = rw c.in-Renewed.is
 
 pub returns-in-Granted : goal.returns-in-Granted
-returns-in-Granted c c = rw c.before.decision2.given.1
+returns-in-Granted c random = rw c.in-Granted.is

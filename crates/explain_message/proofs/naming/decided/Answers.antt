@@ -3,7 +3,7 @@ use borrow.Author.Tests.{eq-eqb, ne_eqb}
 use Rattle.explain_message.proofs.naming.decided.Goals as goal
 
 pub returns-then-number-ne0 : goal.returns-then-number-ne0
-returns-then-number-ne0 c m c = rw (ne_eqb _ 0 c.before.if1.true) c.nothing-named.ensures
+returns-then-number-ne0 c m random = rw (ne_eqb _ 0 c.if-number-ne0.true) c.nothing_named.ensures
 
 pub returns : goal.returns
-returns c m c = rw (eq-eqb _ 0 c.before.if1.false) (c.named.ensures m c)
+returns c m random = rw (eq-eqb _ 0 c.if-number-ne0.false) (c.named.ensures m random)

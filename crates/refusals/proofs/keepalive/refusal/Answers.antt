@@ -4,16 +4,16 @@ use Rattle.refusals.proofs.Stops.{keepalive_stops, keepalive-wrong_lengths, keep
 use Rattle.refusals.proofs.keepalive.refusal.Goals as goal
 
 pub returns-then-as_close-ne0 : goal.returns-then-as_close-ne0
-returns-then-as_close-ne0 c reply relay n c =
-    let a = c.before.before.before.before.before.args in
-    keepalive_stops (lent a.connections.now a.leases.now a.allowances.now) a.time a.connection reply relay _ (c.before.refusal.ensures relay c) c.if1.true
+returns-then-as_close-ne0 c reply relay n m =
+    let a = c.args in
+    keepalive_stops (lent a.connections.now a.leases.now a.allowances.now) a.time a.connection reply relay _ (c.refusal-as_close.ensures relay m) c.if-as_close-ne0.true
 
 pub returns-then-reply_length-lt-LEAST_BUFFER : goal.returns-then-reply_length-lt-LEAST_BUFFER
-returns-then-reply_length-lt-LEAST_BUFFER c reply relay n c =
-    let a = c.before.before.before.before.before.before.args in
-    keepalive-wrong_lengths (lent a.connections.now a.leases.now a.allowances.now) a.time a.connection reply relay _ (c.before.before.refusal.ensures relay c) c.before.if1.false (rw n c.if2.true)
+returns-then-reply_length-lt-LEAST_BUFFER c reply relay n m =
+    let a = c.args in
+    keepalive-wrong_lengths (lent a.connections.now a.leases.now a.allowances.now) a.time a.connection reply relay _ (c.refusal-as_close.ensures relay m) c.if-as_close-ne0.false (rw n c.if-reply_length-lt-LEAST_BUFFER.true)
 
 pub returns : goal.returns
-returns c reply relay n c =
-    let a = c.before.before.before.before.before.before.args in
-    keepalive-passes (lent a.connections.now a.leases.now a.allowances.now) a.time a.connection reply relay _ (c.before.before.refusal.ensures relay c) c.before.if1.false (rw n c.if2.false)
+returns c reply relay n m =
+    let a = c.args in
+    keepalive-passes (lent a.connections.now a.leases.now a.allowances.now) a.time a.connection reply relay _ (c.refusal-as_close.ensures relay m) c.if-as_close-ne0.false (rw n c.if-reply_length-lt-LEAST_BUFFER.false)

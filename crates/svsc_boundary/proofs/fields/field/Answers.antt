@@ -33,4 +33,4 @@ unfolding fields
 returns-in-DataReceive c = of_case (field_of _) _ _ _ _ c.in-DataReceive.is c.data_of-in-DataReceive.ensures
 
 pub returns-in_default : goal.returns-in_default
-returns-in_default c = let a = c.args in no_field a.d a.m.now a.f c.in_default.keys8
+returns-in_default c = let a = c.args in no_field a.d a.m.now a.f c.in_default.in_default-own.keys8

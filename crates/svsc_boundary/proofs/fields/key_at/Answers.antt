@@ -14,5 +14,5 @@ returns-in-3 c = rw c.in-3.is c.part-in-3.ensures
 
 pub returns-in_default : goal.returns-in_default
 returns-in_default c =
-    let r = c.in_default.rest in
+    let r = c.in_default.in_default-own.rest in
     sym (not_keys c.args.f _ _ _ r.0.0.1 r.0.1 r.1)
