@@ -11,16 +11,16 @@ use Rattle.rules.specs.Checks.{check}
 use Rattle.rules.specs.Plans.{Plan, plan, do_nothing, answered_by, heard, stamped}
 use Rattle.rules.specs.Step.{done, outcome, step}
 use Rattle.answers.specs.declared.Answer.{Answer}
-use Rattle.answers.specs.Results.{Result, result, shown}
+use Rattle.answers.specs.Results.{Result, call_result, shown}
 use Rattle.answers.specs.Applied.{Handled, handled, applied, coded}
 
 -- a call that is refused, and one that is done
 module _ (tables : Tables) (call : Call) (k : ℕ) (e : k ≡ check tables call) where
-  pub refused_way : (k ≡ 0 → ⊥) → (r : Answer) → r ≡ coded (refusal k) → result r tables (reply_buffer call) (relay_buffer call) ≡ shown (step tables call)
+  pub refused_way : (k ≡ 0 → ⊥) → (r : Answer) → r ≡ coded (refusal k) → call_result r tables (reply_buffer call) (relay_buffer call) ≡ shown (step tables call)
   unfolding step
   refused_way h r a = rw (← e, a) (by k h)
     where
-      by : (k : ℕ) → (k ≡ 0 → ⊥) → result (coded (refusal k)) tables (reply_buffer call) (relay_buffer call) ≡ shown (outcome k tables call)
+      by : (k : ℕ) → (k ≡ 0 → ⊥) → call_result (coded (refusal k)) tables (reply_buffer call) (relay_buffer call) ≡ shown (outcome k tables call)
       by zero h = absurd (h refl)
       by (suc n) h = refl
 
@@ -39,7 +39,7 @@ pub marked-done : (tables : Tables) (call : Call) (p : Plan) (cs' cs'' ls' al' r
     → handled r cs' ls' reply' relay' ≡ applied p (reply_buffer call) (relay_buffer call)
     → cs'' ≡ stamp (stamp (answered_by call cs') (time_of call) r.reply (connection_of call)) (time_of call) r.relay r.destination
     → al' ≡ set_clock (charge tables.allowances call (price tables call)) (time_of call)
-    → result r (lent cs'' ls' al') reply' relay' ≡ shown (done tables call (stamped (time_of call) (connection_of call) (heard call p)))
+    → call_result r (lent cs'' ls' al') reply' relay' ≡ shown (done tables call (stamped (time_of call) (connection_of call) (heard call p)))
 unfolding applied done
 marked-done tables call p cs' cs'' ls' al' reply' relay' r e s h =
     rw (

@@ -12,8 +12,8 @@ pub record Result : Type 0 where
   pub reply : List ℕ
   pub relay : List ℕ
 
-abbrev pub result : Answer → Tables → List ℕ → List ℕ → Result
-result a tables reply relay = record { answer = a; tables = tables; reply = reply; relay = relay }
+abbrev pub call_result : Answer → Tables → List ℕ → List ℕ → Result
+call_result a tables reply relay = record { answer = a; tables = tables; reply = reply; relay = relay }
 
 abbrev pub shown : Outcome → Result
-shown o = result (coded o.answer) o.tables o.reply o.relay
+shown o = call_result (coded o.answer) o.tables o.reply o.relay

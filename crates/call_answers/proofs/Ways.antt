@@ -21,7 +21,7 @@ use Rattle.rules.specs.Charges.{price}
 use Rattle.connection_map.proofs.Calls.{refused-leaves-map, done-map}
 use Rattle.answers.specs.declared.Answer.{Answer}
 use Rattle.answers.specs.Applied.{coded}
-use Rattle.answers.specs.Results.{Result, result, shown}
+use Rattle.answers.specs.Results.{Result, call_result, shown}
 use Rattle.answers.proofs.Ways.{refused_way}
 use Rattle.call_answers.specs.declared.CallAnswer.{CallAnswer}
 use Rattle.call_answers.specs.Returned.{answer_with, Returned, returned, as_returned}
@@ -57,7 +57,7 @@ module _
         rw (a, stays, ← recorded_as b) (ap (λ (x : Result). with-both x map bytes) (refused_way tables call k e h (coded (refusal k)) refl))
 
     module _
-        (z : k ≡ 0) (b : bytes ≡ answer_record 0 (recorded-with 0 p)) (a : Answer) (after : Tables) (reply relay : List ℕ) (h : result a after reply relay ≡ shown (step tables call)) (r : CallAnswer)
+        (z : k ≡ 0) (b : bytes ≡ answer_record 0 (recorded-with 0 p)) (a : Answer) (after : Tables) (reply relay : List ℕ) (h : call_result a after reply relay ≡ shown (step tables call)) (r : CallAnswer)
       where
         pub done-recorded : r ≡ answer_with a (map_of_done call (step tables call).answer.disconnect map) bytes
             → returned r after reply relay ≡ as_returned (step_recorded tables map call)
@@ -85,14 +85,14 @@ module _
 
 module _ (tables : Tables) (map time term : ℕ) where
   pub start-refused-recorded : (start tables time term).answer.number ≢ 0 → (a : Answer) (r : CallAnswer)
-      → result a tables [] [] ≡ shown (start tables time term) → r ≡ answer_with a map no_record
+      → call_result a tables [] [] ≡ shown (start tables time term) → r ≡ answer_with a map no_record
       → returned r tables [] [] ≡ as_returned (start_recorded tables map time term)
   unfolding start_with_map start_recorded
   start-refused-recorded n a r h q =
       rw (q, ne_eqb (start tables time term).answer.number 0 n) (ap (λ (x : Result). with-both x map no_record) h)
 
   pub start-done-recorded : (start tables time term).answer.number ≡ 0 → (a : Answer) (after : Tables) (r : CallAnswer)
-      → result a after [] [] ≡ shown (start tables time term) → r ≡ answer_with a 0 no_record
+      → call_result a after [] [] ≡ shown (start tables time term) → r ≡ answer_with a 0 no_record
       → returned r after [] [] ≡ as_returned (start_recorded tables map time term)
   unfolding start_with_map start_recorded
   start-done-recorded z a after r h q =

@@ -9,7 +9,7 @@ use Rattle.rules.specs.Calls.{closing}
 use Rattle.rules.specs.Plans.{plan_close, plan_call, plan}
 use Rattle.rules.specs.Step.{done}
 use Rattle.answers.specs.declared.Answer.{Answer}
-use Rattle.answers.specs.Results.{result, shown}
+use Rattle.answers.specs.Results.{call_result, shown}
 use Rattle.answers.specs.Applied.{handled, applied}
 use Rattle.answers.proofs.Ways.{marked-done}
 
@@ -17,7 +17,7 @@ pub close_done : (cs ls al relay cs' cs'' ls' al' relay' : List ℕ) (time c : �
     → handled r cs' ls' [] relay' ≡ applied (plan_close (lent cs ls al) c) [] relay
     → cs'' ≡ stamp (stamp cs' time r.reply c) time r.relay r.destination
     → al' ≡ set_clock al time
-    → result r (lent cs'' ls' al') [] relay' ≡ shown (done (lent cs ls al) (closing time c relay) (plan (lent cs ls al) (closing time c relay)))
+    → call_result r (lent cs'' ls' al') [] relay' ≡ shown (done (lent cs ls al) (closing time c relay) (plan (lent cs ls al) (closing time c relay)))
 unfolding plan plan_call charge price
 close_done cs ls al relay cs' cs'' ls' al' relay' time c r h s k =
     marked-done (lent cs ls al) (closing time c relay) (plan_close (lent cs ls al) c) cs' cs'' ls' al' [] relay' r h s k

@@ -8,7 +8,7 @@ ghost use Rattle.rules.specs.Calls.{closing};
 ghost use Rattle.rules.specs.Plans.{plan};
 ghost use Rattle.rules.specs.Step.{done};
 ghost use Rattle.journal.specs.Steps.{step_recorded};
-ghost use Rattle.answers.specs.Results.{result, shown};
+ghost use Rattle.answers.specs.Results.{call_result, shown};
 ghost use Rattle.call_answers.specs.Returned.{returned, as_returned};
 
 use answers::Answer;
@@ -24,10 +24,10 @@ fn accept(
     relay: &mut [u8],
 ) -> Answer
     requires { (c < connection_count) × (least_buffer ≤ length relay.old) }
-    ensures* { λ r. ⌜ result r (lent connections.new leases.new allowances.new) [] relay.new
+    ensures { call_result result (lent connections.new leases.new allowances.new) [] relay.new
         ≡ shown (done (lent connections.old leases.old allowances.old) (closing time c
         relay.old)
-        (plan (lent connections.old leases.old allowances.old) (closing time c relay.old))) ⌝ }
+        (plan (lent connections.old leases.old allowances.old) (closing time c relay.old))) }
 {
     let answer = closing::close(connections, leases, c, relay);
     keepalives::sent(
@@ -52,9 +52,9 @@ pub extern "C" fn crondelith_close(
     connection: u64,
     relay: &mut [u8],
 ) -> CallAnswer
-    ensures* { λ r. ⌜ returned r (lent connections.new leases.new allowances.new) [] relay.new
+    ensures { returned result (lent connections.new leases.new allowances.new) [] relay.new
         ≡ as_returned (step_recorded (lent connections.old leases.old allowances.old) map
-        (closing time connection relay.old)) ⌝ }
+        (closing time connection relay.old)) }
 {
     let refusal = refusals::close::refusal(
         connections,

@@ -10,7 +10,7 @@ use Rattle.rules.proofs.Demand3.{start-number}
 use Rattle.journal.specs.Records.{no_record}
 use Rattle.journal.specs.Steps.{start_recorded}
 use Rattle.answers.specs.declared.Answer.{Answer}
-use Rattle.answers.specs.Results.{result, shown}
+use Rattle.answers.specs.Results.{call_result, shown}
 use Rattle.answers.specs.Applied.{coded}
 use Rattle.call_answers.specs.declared.CallAnswer.{CallAnswer}
 use Rattle.call_answers.specs.Returned.{answer_with, returned, as_returned}
@@ -24,11 +24,11 @@ module _ (tables : Tables) (map time term k : ℕ) (e : k ≡ check_start tables
       → returned r tables [] [] ≡ as_returned (start_recorded tables map time term)
   start-refused h r q = start-refused-recorded tables map time term (λ z. h (sym numbered ∙ z)) (coded (refusal k)) r without q
     where
-      by : (k : ℕ) → (k ≡ 0 → ⊥) → result (coded (refusal k)) tables [] [] ≡ shown (started k tables time term)
+      by : (k : ℕ) → (k ≡ 0 → ⊥) → call_result (coded (refusal k)) tables [] [] ≡ shown (started k tables time term)
       by zero h = absurd (h refl)
       by (suc n) h = refl
 
-      without : result (coded (refusal k)) tables [] [] ≡ shown (start tables time term)
+      without : call_result (coded (refusal k)) tables [] [] ≡ shown (start tables time term)
       without = unfold start in rw (← e) (by k h)
 
   pub start-done : k ≡ 0 → (a : Answer) (r : CallAnswer) (cs ls al : List ℕ) → a ≡ coded (sent_nothing 0) → r ≡ answer_with a 0 no_record
@@ -36,5 +36,5 @@ module _ (tables : Tables) (map time term k : ℕ) (e : k ≡ check_start tables
       → returned r (lent cs ls al) [] [] ≡ as_returned (start_recorded tables map time term)
   start-done z a r cs ls al h q c l m = start-done-recorded tables map time term (numbered ∙ z) a (lent cs ls al) r without q
     where
-      without : result a (lent cs ls al) [] [] ≡ shown (start tables time term)
+      without : call_result a (lent cs ls al) [] [] ≡ shown (start tables time term)
       without = unfold start in rw (h, c, l, m) (ap (λ (n : ℕ). shown (started n tables time term)) (sym z ∙ e))

@@ -15,7 +15,7 @@ use Rattle.rules.specs.Plans.{Plan, reply_only, disconnecting, plan_keepalive, p
 use Rattle.rules.specs.Step.{step}
 use Rattle.answers.specs.declared.Answer.{Answer}
 use Rattle.answers.specs.Applied.{Handled, answer_of, handled, applied, coded, replied}
-use Rattle.answers.specs.Results.{result, shown}
+use Rattle.answers.specs.Results.{call_result, shown}
 use Rattle.answers.proofs.Ways.{done_way, marked-done}
 use Rattle.refusals.proofs.Stops.{call-sized, keepalive-known}
 use Rattle.relay_keepalive.specs.Asked.{Askable}
@@ -72,8 +72,8 @@ module _ (tables : Tables) (time c : ℕ) (reply relay : List ℕ) (k : ℕ) (e 
       → handled r cs' ls' reply' relay' ≡ applied (plan_keepalive tables time c) reply relay
       → cs'' ≡ stamp (stamp cs' time r.reply c) time r.relay r.destination
       → al' ≡ set_clock tables.allowances time
-      → result r (lent cs'' ls' al') reply' relay' ≡ shown (step tables (keepalive time c reply relay))
+      → call_result r (lent cs'' ls' al') reply' relay' ≡ shown (step tables (keepalive time c reply relay))
   unfolding plan plan_call charge price
   keepalive_way cs' cs'' ls' al' reply' relay' r h s p =
-      done_way tables (keepalive time c reply relay) k e z (result r (lent cs'' ls' al') reply' relay')
+      done_way tables (keepalive time c reply relay) k e z (call_result r (lent cs'' ls' al') reply' relay')
       (marked-done tables (keepalive time c reply relay) (plan_keepalive tables time c) cs' cs'' ls' al' reply' relay' r h s p)

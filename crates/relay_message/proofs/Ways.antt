@@ -26,7 +26,7 @@ use Rattle.journal.specs.Records.{priced}
 use Rattle.journal.proofs.Records.{priced_passed}
 use Rattle.answers.specs.declared.Answer.{Answer}
 use Rattle.answers.specs.Applied.{handled, applied}
-use Rattle.answers.specs.Results.{result, shown}
+use Rattle.answers.specs.Results.{call_result, shown}
 use Rattle.answers.proofs.Ways.{done_way, marked-done}
 use Rattle.checks.proofs.MessageChecks.{peer-some, peer-length}
 use Rattle.refusals.specs.Passed.{Payable}
@@ -130,9 +130,9 @@ module _
         → handled r cs' ls' reply' relay' ≡ applied (plan_decided tables time c random (meaning f.decision m random)) reply relay
         → cs'' ≡ stamp (stamp (answered cs' c) time r.reply c) time r.relay r.destination
         → al' ≡ set_clock (charge al sent f.price) time
-        → result r (lent cs'' ls' al') reply' relay' ≡ shown (step tables sent)
+        → call_result r (lent cs'' ls' al') reply' relay' ≡ shown (step tables sent)
     unfolding plan
     message_way cs' cs'' ls' al' reply' relay' r h s p =
-        done_way tables sent _ e z (result r (lent cs'' ls' al') reply' relay')
+        done_way tables sent _ e z (call_result r (lent cs'' ls' al') reply' relay')
         (marked-done tables sent (plan_call tables sent) cs' cs'' ls' al' reply' relay' r (h ∙ ap (λ (x : Plan). applied x reply relay) as_planned) s
         (p ∙ rw (assessed-price tables time c m random reply relay f all passes)))

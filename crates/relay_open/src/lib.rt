@@ -8,7 +8,7 @@ ghost use Rattle.rules.specs.Calls.{opening};
 ghost use Rattle.rules.specs.Plans.{plan};
 ghost use Rattle.rules.specs.Step.{done};
 ghost use Rattle.journal.specs.Steps.{step_recorded};
-ghost use Rattle.answers.specs.Results.{result, shown};
+ghost use Rattle.answers.specs.Results.{call_result, shown};
 ghost use Rattle.refusals.specs.Passed.{Payable};
 ghost use Rattle.call_answers.specs.Returned.{returned, as_returned};
 
@@ -24,9 +24,9 @@ fn accept(
     reply: &mut [u8],
 ) -> Answer
     requires { (Payable allowances.old time c open_cost) × (least_buffer ≤ length reply.old) }
-    ensures* { λ r. ⌜ ((ls : List ℕ) → result r (lent connections.new ls allowances.new) reply.new []
+    ensures { (ls : List ℕ) → call_result result (lent connections.new ls allowances.new) reply.new []
         ≡ shown (done (lent connections.old ls allowances.old) (opening time c reply.old)
-        (plan (lent connections.old ls allowances.old) (opening time c reply.old)))) ⌝ }
+        (plan (lent connections.old ls allowances.old) (opening time c reply.old))) }
 {
     connection_table::await_version(connections, c);
     charges::pay(allowances, time, c, rules::OPEN_COST);
@@ -53,9 +53,9 @@ pub extern "C" fn crondelith_open(
     connection: u64,
     reply: &mut [u8],
 ) -> CallAnswer
-    ensures* { λ r. ⌜ returned r (lent connections.new leases.new allowances.new) reply.new []
+    ensures { returned result (lent connections.new leases.new allowances.new) reply.new []
         ≡ as_returned (step_recorded (lent connections.old leases.old allowances.old) map
-        (opening time connection reply.old)) ⌝ }
+        (opening time connection reply.old)) }
 {
     let refusal = refusals::open::refusal(
         connections,
