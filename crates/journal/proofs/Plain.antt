@@ -1,6 +1,6 @@
 -- The two replays agree on every byte string. Two ledgers that are related, and stay so with each done record, judge all journals alike; the allowance
 -- table and the levels are such. Assumes nothing.
-use Prim.Native.Nat.{ℕ, zero, suc, ◌-◌, ◌^◌, ◌≤◌, ◌<◌}
+use Prim.Native.Nat.{ℕ, zero, suc, ◌+◌, ◌-◌, ◌^◌, ◌≤◌, ◌<◌}
 use mathlib.Core.Path.{◌≡◌, refl, sym, ap, ◌∙◌}
 use mathlib.Core.Logic.{◌≢◌}
 use mathlib.Core.Bool.{Bool, true, false, not, ◌&&◌, ◌||◌}
@@ -24,7 +24,7 @@ use Rattle.rules.specs.Checks.{wrong_term}
 use Rattle.rules.proofs.Allowances.{bucket-set, bucket-other, bucket-clocked, clock-set, fresh-bucket, fresh-clock, fresh_term}
 use Rattle.rules.proofs.Checks.{none_applies}
 use Rattle.rules.proofs.Fresh.{fresh-sizes}
-use Rattle.journal.specs.Records.{Record}
+use Rattle.journal.specs.Records.{Record, record_bytes}
 use Rattle.journal.specs.Contradictions.{contradicts, is_done}
 use Rattle.journal.specs.Replays.{Ledger, Verdict, agrees, contradicted_at, is_contradicted, advance, judge, tail_of, records_of, replay_from, table_ledger, settled, check_replay, concluded, answered_with, replay}
 use Rattle.journal.specs.Plain.{Levels, levels_at, plain_ledger, fresh_levels, level_table, as_table, replay_plain}
@@ -86,7 +86,7 @@ module _ {A B : Type 0} (K : Ledger A) (L : Ledger B) (R : A → B → Type 0) (
       go false = both_name place
   judge_related place tail a b h (r ∷ rs) =
       rw (← same-contradicted a b h r)
-      (go (is_contradicted K a r) (λ e. judge_related _ tail (advance K a r) (advance L b r) (stay_related a b h r e) rs))
+      (go (is_contradicted K a r) (λ e. judge_related (place + record_bytes) tail (advance K a r) (advance L b r) (stay_related a b h r e) rs))
     where
       go : {v : Verdict A} {w : Verdict B} (c : Bool) → (c ≡ false → Related R v w)
           → Related R (if c then contradicted_at place else v) (if c then contradicted_at place else w)

@@ -84,7 +84,9 @@ records-back [] f before = refl
 records-back (r ∷ rs) f before =
     let next : length (before ++ written r) ≡ length before + record_bytes = length-append before (written r) ∙ rw (length-written r) in
     ap₂ ◌∷◌ (read_back r f.0 before (journal_bytes rs))
-    (rw (← append_assoc before (written r) (journal_bytes rs), ← next) (records-back rs f.1 (before ++ written r)))
+    (ap (λ (j : List ℕ). records_from j (length before + record_bytes) (length rs)) (sym (append_assoc before (written r) (journal_bytes rs)))
+    ∙ ap (λ (place : ℕ). records_from ((before ++ written r) ++ journal_bytes rs) place (length rs)) (sym next)
+    ∙ records-back rs f.1 (before ++ written r))
 
 bytes_back : (j : List ℕ) → are_bytes j ≡ true → (n place : ℕ) → place + record_bytes * n ≤ length j
     → journal_bytes (records_from j place n) ≡ part j place (record_bytes * n)

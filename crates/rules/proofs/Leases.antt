@@ -187,7 +187,7 @@ module _ (ls : List ℕ) (now c : ℕ) (random : List ℕ) where
   spare-exactly = (
     (λ h.
         let row = earliest-spare ls now p c refl (ltb-true _ (end_row p) h) in
-        (first_own p (is_earliest ls now p), row.own_val, row.spare)),
+        (first_own p (is_earliest ls now p), row.own, row.spare)),
     (λ q.
         let k = some-earliest ls now p (suc (expiry ls q.0)) q.0 (omega arith) (q.1, q.2) in
         own-found p (is_earliest ls now p) k.0 k.1 k.2),

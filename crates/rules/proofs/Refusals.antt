@@ -40,9 +40,9 @@ row_is [] k i = refl
 row_is (true ∷ row) k zero = rw (eq-eqb (k + 0) k (omega arith))
 row_is (true ∷ row) k (suc i) =
     let e : k + suc i ≡ k + 1 + i = omega arith in
-    rw (ne_eqb (k + suc i) k (λ e. omega arith), e) (row_is row (k + 1) i)
+    rw (ne_eqb (k + suc i) k (λ e. omega arith)) (row_is row (k + 1) i ∙ ap (λ (n : ℕ). is_one_of n (types_in (k + 1) row)) (sym e))
 row_is (false ∷ row) k zero = sym (below row (k + 1) (k + 0) (omega arith))
-row_is (false ∷ row) k (suc i) = let e : k + suc i ≡ k + 1 + i = omega arith in rw e (row_is row (k + 1) i)
+row_is (false ∷ row) k (suc i) = let e : k + suc i ≡ k + 1 + i = omega arith in row_is row (k + 1) i ∙ ap (λ (n : ℕ). is_one_of n (types_in (k + 1) row)) (sym e)
 
 at_type : (row : List Bool) (type : ℕ) → get_or row type false ≡ is_one_of type (types_in 0 row)
 at_type row type = row_is row 0 type ∙ ap (λ (n : ℕ). is_one_of n (types_in 0 row)) (zero-add type)

@@ -1,4 +1,5 @@
 -- `decide`: in each arm what the rules decide.
+use borrow.Enum.Refused.{opened}
 use mathlib.Core.Path.{refl, ◌∙◌}
 use Rattle.rules.specs.Decisions.{decide_message}
 use Rattle.decisions.proofs.Ways.{arm_decides, rest-decides, lease-decides}
@@ -45,4 +46,4 @@ returns-in-DataSend c =
 pub returns-in_default : goal.returns-in_default
 returns-in_default c =
     let a = c.args in
-    rest-decides a.connections.now a.leases.now a.time a.c a.other a.random.now a.m.now c.read-d.result c.read-d.ensures c.in_default.in_default-own.keys7
+    rest-decides a.connections.now a.leases.now a.time a.c a.other a.random.now a.m.now c.read-d.result c.read-d.ensures (opened c.in_default.in_default-own.keys7)

@@ -45,4 +45,4 @@ returns c reply long =
     ∙ rw c.nothing_named-nothing.ensures
     (charged_way tables call _ e
     (first-eight_passed tables call _ e (sym c.is_stopped.ensures ∙ c.if-is_stopped.false)) refl _ (nothing_asked_lem tables call c.refusal-check.result (unfold asked in refl)) _ _
-    (c.level-level.ensures ∙ rw c.partner_of-partner.ensures) (sym ((prices tables).open-price c.args.time c.args.connection reply)))
+    (c.level-level.ensures ∙ rw c.partner_of-partner.ensures) (sym ((prices tables).open_price c.args.time c.args.connection reply)))

@@ -1,34 +1,26 @@
 -- `svsc_frame_read`: too short, no valid state, a header that is refused or isn't whole, or the message.
 use native.Mathlib.Omega.{arith}
+use Prim.Native.Nat.{ℕ, ◌≤◌}
+use mathlib.Core.List.{List}
+use mathlib.Core.Bool.{true, false}
+use lib.ListN.{length}
+use lib.Pow.{are_bytes}
+use Rattle.framing.specs.Frames.{message_limit}
+use Rattle.frame_headers.specs.declared.Header.{Header}
+use Rattle.frame_headers.specs.Headers.{read_header}
 use mathlib.Core.Path.{◌≡◌, sym, ◌∙◌}
-use mathlib.Core.Bool.{false}
 use borrow.Author.Tests.{not-true, not-false}
 use Rattle.octets.proofs.Tests.{bytes-known}
 use Rattle.framing.specs.Reading.{state, is_valid}
 use Rattle.framing.proofs.Steps.{step-short}
 use Rattle.framing.proofs.Reading.{step-invalid}
 use Rattle.frame_reader.proofs.Steps.{valid_size, Ready, header_refused, header_partly, body_ahead, header_entire}
-use Rattle.frame_reader.proofs.svsc_frame_read.Reads as reads
-use Rattle.frame_reader.proofs.svsc_frame_read.Lts as lts
-use Rattle.frame_reader.proofs.answer.Reads as answer-reads
-use Rattle.frame_headers.proofs.is_valid.Reads as is-valid-reads
-use Rattle.frame_reader.proofs.read_body.Reads as read-body-reads
-use Rattle.frame_headers.proofs.read_header.Reads as read-header-reads
 use Rattle.frame_reader.proofs.svsc_frame_read.Goals as goal
 
--- the place behind the header, and what is known there
-abbrev Place : Type 0
-Place = lts.After-read-header (answer-reads.Asked, answer-reads.Learnt, is-valid-reads.Asked, is-valid-reads.Learnt, read-header-reads.Asked, read-header-reads.Learnt, read-body-reads.Asked, read-body-reads.Learnt) reads.Pre reads.Post
-
-ready : (c : Place)
-    → Ready c.before.before.before.before.before.before.args.taken c.before.before.before.before.before.before.args.size c.before.before.before.before.before.before.args.message.now c.before.before.before.before.before.before.args.chunk.now c.read-header.result
-ready c =
-    record {
-      room = omega (arith, c.before.before.before.if1.false);
-      valid = sym c.before.before.is-valid.ensures ∙ not-false _ c.before.if2.false;
-      are_bytes_lem = bytes-known c.before.before.before.before.before.before.args.chunk.now (λ i l. omega (arith, c.before.before.before.before.shared-slice-known.given i));
-      read = c.read-header.ensures;
-    }
+-- what is known behind the header
+ready : (taken size : ℕ) (message chunk : List ℕ) (header : Header) → message_limit ≤ length message → is_valid (state taken size) ≡ true → are_bytes chunk ≡ true
+    → header ≡ read_header taken size chunk → Ready taken size message chunk header
+ready taken size message chunk header r v b e = record { room = r; valid = v; are_bytes_lem = b; read = e }
 
 pub returns-then-message-lt-MESSAGE_LIMIT : goal.returns-then-message-lt-MESSAGE_LIMIT
 returns-then-message-lt-MESSAGE_LIMIT c =
@@ -47,18 +39,18 @@ read_header-header-requires c =
     valid_size a.taken a.size (sym c.is_valid.ensures ∙ not-false _ c.if-not-is_valid.false-raw)
 
 pub returns-then-header : goal.returns-then-header
-returns-then-header c = rw c.answer-then-header.ensures (header_refused (ready c) c.if-header.true)
+returns-then-header c = rw c.answer-then-header.ensures (header_refused (ready c.args.taken c.args.size c.args.message.now c.args.chunk.now c.read_header-header.result (omega (arith, c.if-message-lt-MESSAGE_LIMIT.false)) (sym c.is_valid.ensures ∙ not-false _ c.if-not-is_valid.false-raw) (bytes-known c.args.chunk.now (λ i l. omega (arith, c.type_inv.chunk i))) c.read_header-header.ensures) c.if-header.true)
 
 pub returns-then-header-2 : goal.returns-then-header-2
 returns-then-header-2 c =
     rw c.answer-then-header-2.ensures
-    (header_partly (ready c) c.if-header.false (omega (arith, c.if-header-2.true)))
+    (header_partly (ready c.args.taken c.args.size c.args.message.now c.args.chunk.now c.read_header-header.result (omega (arith, c.if-message-lt-MESSAGE_LIMIT.false)) (sym c.is_valid.ensures ∙ not-false _ c.if-not-is_valid.false-raw) (bytes-known c.args.chunk.now (λ i l. omega (arith, c.type_inv.chunk i))) c.read_header-header.ensures) c.if-header.false (omega (arith, c.if-header-2.true)))
 
 pub read_body-requires : goal.read_body-requires
 read_body-requires c =
-    body_ahead (ready c) c.if-header.false (omega (arith, c.if-header-2.false))
+    body_ahead (ready c.args.taken c.args.size c.args.message.now c.args.chunk.now c.read_header-header.result (omega (arith, c.if-message-lt-MESSAGE_LIMIT.false)) (sym c.is_valid.ensures ∙ not-false _ c.if-not-is_valid.false-raw) (bytes-known c.args.chunk.now (λ i l. omega (arith, c.type_inv.chunk i))) c.read_header-header.ensures) c.if-header.false (omega (arith, c.if-header-2.false))
 
 pub returns : goal.returns
 returns c =
     c.read_body.ensures
-    ∙ header_entire (ready c) c.if-header.false (omega (arith, c.if-header-2.false))
+    ∙ header_entire (ready c.args.taken c.args.size c.args.message.now c.args.chunk.now c.read_header-header.result (omega (arith, c.if-message-lt-MESSAGE_LIMIT.false)) (sym c.is_valid.ensures ∙ not-false _ c.if-not-is_valid.false-raw) (bytes-known c.args.chunk.now (λ i l. omega (arith, c.type_inv.chunk i))) c.read_header-header.ensures) c.if-header.false (omega (arith, c.if-header-2.false))

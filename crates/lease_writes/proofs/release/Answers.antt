@@ -13,7 +13,7 @@ pub loop-row-preserved : goal.loop-row-preserved
 loop-row-preserved c =
     let l = c.loop-row in
     let r = c.release_row in
-    (omega arith, r.auto.0 ∙ l.invariant.1, l.invariant.2 ∙ release_turn _ _ _ c.loop-row-test.true r.ensures)
+    (omega arith, r.auto.leases ∙ l.invariant.1, l.invariant.2 ∙ release_turn _ _ _ c.loop-row-test.true r.ensures)
 
 pub returns : goal.returns
 returns c =

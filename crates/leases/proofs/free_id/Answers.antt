@@ -14,10 +14,6 @@ candidates-init c = (omega arith, refl)
 pub loop-row-init : goal.loop-row-init
 loop-row-init c = search rules
 
-is-live-with-id-requires :
-    tie.Need-is-live-with-id-requires invariant-loop decreases-loop invariant-candidates decreases-candidates
-is-live-with-id-requires c κs = search rules
-
 pub candidates-preserved : goal.candidates-preserved
 candidates-preserved c =
     let l = c.loop-row in

@@ -1,4 +1,5 @@
 -- `lease`: renewed, granted or refused, as was decided.
+use borrow.Enum.Refused.{opened}
 use Rattle.leasing.proofs.Ways.{as_decided, as_refused, row_in}
 use Rattle.leasing.proofs.lease.Goals as goal
 
@@ -26,4 +27,4 @@ pub returns-in_default : goal.returns-in_default
 returns-in_default c cs relay =
     let a = c.args in
     as_refused cs a.leases.now a.allowances.now a.reply.now relay a.time a.c a.random.now a.decision
-    c.in_default.in_default-own.keys3 (c.refuse.ensures cs a.leases.now a.allowances.now relay)
+    (opened c.in_default.in_default-own.keys3) (c.refuse.ensures cs a.leases.now a.allowances.now relay)

@@ -11,7 +11,7 @@ store-requires c = c.requires.0
 pub store-requires-2 : goal.store-requires-2
 store-requires-2 c =
     let s = c in
-    omega (arith, length-take (length s.args.bytes.now - 0) c.store.new.0, s.requires.1)
+    omega (arith, length-take (length s.args.bytes.now - 0) c.store.new.t, s.requires.1)
 
 pub returns : goal.returns
 returns c =

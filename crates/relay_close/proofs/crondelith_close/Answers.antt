@@ -14,7 +14,7 @@ pub returns-then-refusal-ne0 : goal.returns-then-refusal-ne0
 returns-then-refusal-ne0 c =
     let a = c.args in
     let tables = lent a.connections.now a.leases.now a.allowances.now in
-    refused-recorded tables a.map (closing a.time a.connection a.relay.now) _ (c.refusal-refusal.ensures a.relay.now refl) _ (λ _. sym ((prices tables).close-price _ _ _)) _ c.if-refusal-ne0.true c.close_record-recorded.ensures _ c.refused.ensures
+    refused-recorded tables a.map (closing a.time a.connection a.relay.now) _ (c.refusal-refusal.ensures a.relay.now refl) _ (λ _. sym ((prices tables).close_price _ _ _)) _ c.if-refusal-ne0.true c.close_record-recorded.ensures _ c.refused.ensures
 
 pub overflow_cast-c : goal.overflow_cast-c
 overflow_cast-c c =
@@ -42,4 +42,4 @@ returns c =
     let tables = lent a.connections.now a.leases.now a.allowances.now in
     let checked = c.refusal-refusal.ensures a.relay.now refl in
     let passed = c.if-refusal-ne0.false in
-    done-recorded tables a.map (closing a.time a.connection a.relay.now) _ checked _ (λ _. sym ((prices tables).close-price _ _ _)) _ passed c.close_record-recorded-2.ensures _ _ _ _ (done_way tables (closing a.time a.connection a.relay.now) _ checked passed _ c.accept-answer.ensures) _ c.closed.ensures
+    done-recorded tables a.map (closing a.time a.connection a.relay.now) _ checked _ (λ _. sym ((prices tables).close_price _ _ _)) _ passed c.close_record-recorded-2.ensures _ _ _ _ (done_way tables (closing a.time a.connection a.relay.now) _ checked passed _ c.accept-answer.ensures) _ c.closed.ensures

@@ -14,7 +14,7 @@ pub returns-then-refusal-ne0 : goal.returns-then-refusal-ne0
 returns-then-refusal-ne0 c =
     let a = c.args in
     let tables = lent a.connections.now a.leases.now a.allowances.now in
-    refused-recorded tables a.map (keepalive a.time a.connection a.reply.now a.relay.now) _ (c.refusal-refusal.ensures a.reply.now a.relay.now refl refl) _ (λ _. sym ((prices tables).keepalive-price _ _ _ _)) _ c.if-refusal-ne0.true c.keepalive_record-recorded.ensures _ c.refused.ensures
+    refused-recorded tables a.map (keepalive a.time a.connection a.reply.now a.relay.now) _ (c.refusal-refusal.ensures a.reply.now a.relay.now refl refl) _ (λ _. sym ((prices tables).keepalive_price _ _ _ _)) _ c.if-refusal-ne0.true c.keepalive_record-recorded.ensures _ c.refused.ensures
 
 pub overflow_cast-c : goal.overflow_cast-c
 overflow_cast-c c =
@@ -42,6 +42,6 @@ returns c =
     let tables = lent a.connections.now a.leases.now a.allowances.now in
     let checked = c.refusal-refusal.ensures a.reply.now a.relay.now refl refl in
     let passed = c.if-refusal-ne0.false in
-    settled-recorded tables a.map (keepalive a.time a.connection a.reply.now a.relay.now) _ checked _ (λ _. sym ((prices tables).keepalive-price _ _ _ _)) _ passed c.keepalive_record-recorded-2.ensures _ _ _ _
+    settled-recorded tables a.map (keepalive a.time a.connection a.reply.now a.relay.now) _ checked _ (λ _. sym ((prices tables).keepalive_price _ _ _ _)) _ passed c.keepalive_record-recorded-2.ensures _ _ _ _
     (keepalive_way tables a.time a.connection a.reply.now a.relay.now _ checked passed _ _ _ _ _ _ c.attend-answer.result (c.attend-answer.ensures a.allowances.now) c.sent.ensures c.set_clock.ensures)
     _ (λ d. refl) c.closed_if_disconnected.ensures

@@ -29,21 +29,21 @@ handle-answer-requires c =
     let a = c.args in
     let tables = lent a.connections.now a.leases.now a.allowances.now in
     let all = c.assess-assessment.ensures a.reply.now a.relay.now refl refl in
-    (admitted tables a.time a.connection a.m.now a.random.now a.reply.now a.relay.now c.assess-assessment.result all c.if1.false, feasible tables a.time a.connection a.m.now a.random.now a.reply.now a.relay.now c.assess-assessment.result all c.if1.false)
+    (admitted tables a.time a.connection a.m.now a.random.now a.reply.now a.relay.now c.assess-assessment.result all c.if-number-ne0.false, feasible tables a.time a.connection a.m.now a.random.now a.reply.now a.relay.now c.assess-assessment.result all c.if-number-ne0.false)
 
 pub settle-requires : goal.settle-requires
 settle-requires c =
     let a = c.args in
     let tables = lent a.connections.now a.leases.now a.allowances.now in
     let all = c.assess-assessment.ensures a.reply.now a.relay.now refl refl in
-    admitted_payable tables a.time a.connection a.m.now a.random.now a.reply.now a.relay.now c.assess-assessment.result all c.if1.false
+    admitted_payable tables a.time a.connection a.m.now a.random.now a.reply.now a.relay.now c.assess-assessment.result all c.if-number-ne0.false
 
 pub closed_if_disconnected-requires : goal.closed_if_disconnected-requires
 closed_if_disconnected-requires c =
     let a = c.args in
     let tables = lent a.connections.now a.leases.now a.allowances.now in
     let all = c.assess-assessment.ensures a.reply.now a.relay.now refl refl in
-    omega (arith, (admitted tables a.time a.connection a.m.now a.random.now a.reply.now a.relay.now c.assess-assessment.result all c.if1.false).known)
+    omega (arith, (admitted tables a.time a.connection a.m.now a.random.now a.reply.now a.relay.now c.assess-assessment.result all c.if-number-ne0.false).known)
 
 pub returns : goal.returns
 unfolding map_of_done
@@ -52,7 +52,7 @@ returns c =
     let tables = lent a.connections.now a.leases.now a.allowances.now in
     let all = c.assess-assessment.ensures a.reply.now a.relay.now refl refl in
     settled-recorded tables a.map (message a.time a.connection a.m.now a.random.now a.reply.now a.relay.now) _ (assessed-number tables a.time a.connection a.m.now a.random.now a.reply.now a.relay.now c.assess-assessment.result all)
-    _ (recorded-price tables a.time a.connection a.m.now a.random.now a.reply.now a.relay.now c.assess-assessment.result all) _ c.if1.false c.message_record-recorded-2.ensures _ _ _ _
-    (message_way tables a.time a.connection a.m.now a.random.now a.reply.now a.relay.now c.assess-assessment.result all c.if1.false _ _ _ _ _ _ c.handle-answer.result c.handle-answer.ensures
+    _ (recorded-price tables a.time a.connection a.m.now a.random.now a.reply.now a.relay.now c.assess-assessment.result all) _ c.if-number-ne0.false c.message_record-recorded-2.ensures _ _ _ _
+    (message_way tables a.time a.connection a.m.now a.random.now a.reply.now a.relay.now c.assess-assessment.result all c.if-number-ne0.false _ _ _ _ _ _ c.handle-answer.result c.handle-answer.ensures
     (c.sent.ensures ∙ rw c.answered.ensures) (c.settle.ensures a.random.now a.reply.now a.relay.now))
     _ (λ d. refl) c.closed_if_disconnected.ensures

@@ -14,7 +14,7 @@ pub returns-then-refusal-ne0 : goal.returns-then-refusal-ne0
 returns-then-refusal-ne0 c =
     let a = c.args in
     let tables = lent a.connections.now a.leases.now a.allowances.now in
-    refused-recorded tables a.map (opening a.time a.connection a.reply.now) _ (c.refusal-refusal.ensures a.reply.now refl) _ (λ _. sym ((prices tables).open-price _ _ _)) _ c.if-refusal-ne0.true c.open_record-recorded.ensures _ c.refused.ensures
+    refused-recorded tables a.map (opening a.time a.connection a.reply.now) _ (c.refusal-refusal.ensures a.reply.now refl) _ (λ _. sym ((prices tables).open_price _ _ _)) _ c.if-refusal-ne0.true c.open_record-recorded.ensures _ c.refused.ensures
 
 pub overflow_cast-c : goal.overflow_cast-c
 overflow_cast-c c =
@@ -42,4 +42,4 @@ returns c =
     let tables = lent a.connections.now a.leases.now a.allowances.now in
     let checked = c.refusal-refusal.ensures a.reply.now refl in
     let passed = c.if-refusal-ne0.false in
-    done-recorded tables a.map (opening a.time a.connection a.reply.now) _ checked _ (λ _. sym ((prices tables).open-price _ _ _)) _ passed c.open_record-recorded-2.ensures _ _ _ _ (done_way tables (opening a.time a.connection a.reply.now) _ checked passed _ (c.accept-answer.ensures a.leases.now)) _ c.opened.ensures
+    done-recorded tables a.map (opening a.time a.connection a.reply.now) _ checked _ (λ _. sym ((prices tables).open_price _ _ _)) _ passed c.open_record-recorded-2.ensures _ _ _ _ (done_way tables (opening a.time a.connection a.reply.now) _ checked passed _ (c.accept-answer.ensures a.leases.now)) _ c.opened.ensures

@@ -17,7 +17,7 @@ unfolding replay
 returns-then-verdict-eq0 c =
     let a = c.args in
     let size = sized _ _ _ _ c.refusal-refusal.ensures c.if-refusal-ne0.false in
-    rw (← c.refusal-refusal.ensures, c.if-refusal-ne0.false, c.store.ensures, put_whole a.allowances.now c.judge-verdict.new.0 (omega arith), ← c.fresh_allowances.ensures)
+    rw (← c.refusal-refusal.ensures, c.if-refusal-ne0.false, c.store.ensures, put_whole a.allowances.now c.judge-verdict.new.table (omega arith), ← c.fresh_allowances.ensures)
     (agreed_way a.allowances.now _ _ _ (c.judge-verdict.ensures a.allowances.now) c.if-verdict-eq0.true)
 
 pub returns-else-verdict-eq0 : goal.returns-else-verdict-eq0

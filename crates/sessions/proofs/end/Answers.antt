@@ -4,15 +4,7 @@ use mathlib.Core.Path.{refl}
 use Rattle.svsc.specs.Messages.{session_end_notification, encode, well_formed}
 use Rattle.answers.proofs.Writes.{sent-length, sent-buffer, written-short}
 use Rattle.sessions.proofs.Ways.{ended}
-use borrow.Author.Rules.{rules}
 use Rattle.sessions.proofs.end.Goals as goal
-
-pub end_session-requires : goal.end_session-requires
-end_session-requires c = search rules
-
-svsc-write-session-end-notification-requires :
-    tie.Need-svsc-write-session-end-notification-requires
-svsc-write-session-end-notification-requires c κs = search rules
 
 pub overflow_cast-sent : goal.overflow_cast-sent
 overflow_cast-sent c = omega (arith, written-short _ _ _ c.svsc_write_session_end_notification-sent.ensures)

@@ -1,4 +1,5 @@
 -- `field`: in each arm, the field of the form; nothing in the others.
+use borrow.Enum.Refused.{opened}
 use Rattle.svsc_decoded.proofs.Cases.{of_case}
 use Rattle.svsc_boundary.specs.Boundary.{fields, field_of}
 use Rattle.svsc_boundary.proofs.Fieldless.{no_field}
@@ -33,4 +34,4 @@ unfolding fields
 returns-in-DataReceive c = of_case (field_of _) _ _ _ _ c.in-DataReceive.is c.data_of-in-DataReceive.ensures
 
 pub returns-in_default : goal.returns-in_default
-returns-in_default c = let a = c.args in no_field a.d a.m.now a.f c.in_default.in_default-own.keys8
+returns-in_default c = let a = c.args in no_field a.d a.m.now a.f (opened c.in_default.in_default-own.keys8)

@@ -1,4 +1,5 @@
 -- `svsc_field`: 6 for bytes that are no message; else the field, stored.
+use borrow.Enum.Refused.{opened}
 use Prim.Native.Nat.{ℕ}
 use mathlib.Core.Path.{refl, ap₂, ◌∙◌}
 use mathlib.Core.Bool.{Bool, false}
@@ -22,4 +23,4 @@ returns c =
     let d = c.read-d.result in
     in_rest (λ (x : Option Message). copy_field a.f x a.buffer.now) d a.message.now c.read-d.ensures _
     (c.store.ensures
-    ∙ ap₂ (λ (fits : Bool) (l : List ℕ). emit fits l a.buffer.now) (is-message d a.message.now c.in_default.in_default-own.keys2) c.field.ensures)
+    ∙ ap₂ (λ (fits : Bool) (l : List ℕ). emit fits l a.buffer.now) (is-message d a.message.now (opened c.in_default.in_default-own.keys2)) c.field.ensures)
