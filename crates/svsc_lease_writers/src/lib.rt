@@ -1,4 +1,4 @@
-// The writers of types 2 to 5, leases and their extensions: a function for each form, exported to C.
+// The writers of types 2 to 5, leases and their extensions: a function for each form, for svsc_lease_writers_c and the crates above.
 #![tactic(auto)]
 
 ghost use Rattle.std.specs.Prelude.{◌≡◌};
@@ -10,30 +10,26 @@ use octet_comparisons::sized;
 use svsc::Written;
 use svsc_parts::{put_part, put_parts};
 
-#[unsafe(no_mangle)]
-pub extern "C" fn svsc_write_lease_request(buffer: &mut [u8]) -> Written
+pub fn svsc_write_lease_request(buffer: &mut [u8]) -> Written
     ensures { written result buffer.new ≡ write lease_request buffer.old }
 {
     put_part(buffer, true, 2, &[0])
 }
 
-#[unsafe(no_mangle)]
-pub extern "C" fn svsc_write_lease_request_with_cookie(buffer: &mut [u8], cookie: &[u8]) -> Written
+pub fn svsc_write_lease_request_with_cookie(buffer: &mut [u8], cookie: &[u8]) -> Written
     ensures { written result buffer.new ≡ write (lease_request_with_cookie cookie.now) buffer.old }
 {
     let fits = sized(cookie, svsc::COOKIE);
     put_parts(buffer, fits, 2, &[1], cookie, b"", b"")
 }
 
-#[unsafe(no_mangle)]
-pub extern "C" fn svsc_write_lease_refused(buffer: &mut [u8]) -> Written
+pub fn svsc_write_lease_refused(buffer: &mut [u8]) -> Written
     ensures { written result buffer.new ≡ write lease_refused buffer.old }
 {
     put_part(buffer, true, 3, &[0])
 }
 
-#[unsafe(no_mangle)]
-pub extern "C" fn svsc_write_lease_granted(
+pub fn svsc_write_lease_granted(
     buffer: &mut [u8],
     id: u32,
     cookie: &[u8],
@@ -47,22 +43,19 @@ pub extern "C" fn svsc_write_lease_granted(
     put_parts(buffer, fits, 3, &[1], &name, cookie, &until)
 }
 
-#[unsafe(no_mangle)]
-pub extern "C" fn svsc_write_extension_request(buffer: &mut [u8], cookie: &[u8]) -> Written
+pub fn svsc_write_extension_request(buffer: &mut [u8], cookie: &[u8]) -> Written
     ensures { written result buffer.new ≡ write (extension_request cookie.now) buffer.old }
 {
     put_part(buffer, sized(cookie, svsc::COOKIE), 4, cookie)
 }
 
-#[unsafe(no_mangle)]
-pub extern "C" fn svsc_write_extension_refused(buffer: &mut [u8]) -> Written
+pub fn svsc_write_extension_refused(buffer: &mut [u8]) -> Written
     ensures { written result buffer.new ≡ write extension_refused buffer.old }
 {
     put_part(buffer, true, 5, &[0])
 }
 
-#[unsafe(no_mangle)]
-pub extern "C" fn svsc_write_extension_granted(buffer: &mut [u8], expiration: u64) -> Written
+pub fn svsc_write_extension_granted(buffer: &mut [u8], expiration: u64) -> Written
     ensures { written result buffer.new ≡ write (extension_granted expiration) buffer.old }
 {
     let until = octets::bytes64(expiration);

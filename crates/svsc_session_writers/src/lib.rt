@@ -1,4 +1,4 @@
-// The writers of types 6 to 13, sessions and the keepalive: a function for each form, exported to C.
+// The writers of types 6 to 13, sessions and the keepalive: a function for each form, for svsc_session_writers_c and the crates above.
 #![tactic(auto)]
 
 ghost use Rattle.std.specs.Prelude.{◌≡◌, [], ◌∷◌, ◌++◌};
@@ -11,8 +11,7 @@ use octet_comparisons::{short, sized};
 use svsc::Written;
 use svsc_parts::{put_part, put_parts};
 
-#[unsafe(no_mangle)]
-pub extern "C" fn svsc_write_establish_request(buffer: &mut [u8], id: u32) -> Written
+pub fn svsc_write_establish_request(buffer: &mut [u8], id: u32) -> Written
     ensures { written result buffer.new ≡ write (establish_request id) buffer.old }
 {
     let name = octets::bytes32(id);
@@ -27,16 +26,14 @@ fn outcome(id: u32, status: u8) -> [u8; 5]
     [name[0], name[1], name[2], name[3], status]
 }
 
-#[unsafe(no_mangle)]
-pub extern "C" fn svsc_write_establish_refused(buffer: &mut [u8], id: u32, status: u8) -> Written
+pub fn svsc_write_establish_refused(buffer: &mut [u8], id: u32, status: u8) -> Written
     ensures { written result buffer.new ≡ write (establish_refused id status) buffer.old }
 {
     let head = outcome(id, status);
     put_part(buffer, (1 <= status) & (status <= 5), 7, &head)
 }
 
-#[unsafe(no_mangle)]
-pub extern "C" fn svsc_write_established(
+pub fn svsc_write_established(
     buffer: &mut [u8],
     id: u32,
     session: &[u8],
@@ -51,8 +48,7 @@ pub extern "C" fn svsc_write_established(
     put_parts(buffer, fits, 7, &head, session, peer, key)
 }
 
-#[unsafe(no_mangle)]
-pub extern "C" fn svsc_write_establish_notification(
+pub fn svsc_write_establish_notification(
     buffer: &mut [u8],
     session: &[u8],
     peer: &[u8],
@@ -65,29 +61,25 @@ pub extern "C" fn svsc_write_establish_notification(
     put_parts(buffer, fits, 8, session, peer, key, b"")
 }
 
-#[unsafe(no_mangle)]
-pub extern "C" fn svsc_write_session_end(buffer: &mut [u8]) -> Written
+pub fn svsc_write_session_end(buffer: &mut [u8]) -> Written
     ensures { written result buffer.new ≡ write session_end buffer.old }
 {
     put_part(buffer, true, 9, b"")
 }
 
-#[unsafe(no_mangle)]
-pub extern "C" fn svsc_write_session_end_notification(buffer: &mut [u8]) -> Written
+pub fn svsc_write_session_end_notification(buffer: &mut [u8]) -> Written
     ensures { written result buffer.new ≡ write session_end_notification buffer.old }
 {
     put_part(buffer, true, 10, b"")
 }
 
-#[unsafe(no_mangle)]
-pub extern "C" fn svsc_write_data_send(buffer: &mut [u8], bytes: &[u8]) -> Written
+pub fn svsc_write_data_send(buffer: &mut [u8], bytes: &[u8]) -> Written
     ensures { written result buffer.new ≡ write (data_send bytes.now) buffer.old }
 {
     put_part(buffer, short(bytes, svsc::LONGEST), 11, bytes)
 }
 
-#[unsafe(no_mangle)]
-pub extern "C" fn svsc_write_data_receive(buffer: &mut [u8], bytes: &[u8]) -> Written
+pub fn svsc_write_data_receive(buffer: &mut [u8], bytes: &[u8]) -> Written
     ensures { written result buffer.new ≡ write (data_receive bytes.now) buffer.old }
 {
     if !short(bytes, svsc::LONGEST) {
@@ -109,8 +101,7 @@ pub extern "C" fn svsc_write_data_receive(buffer: &mut [u8], bytes: &[u8]) -> Wr
     }
 }
 
-#[unsafe(no_mangle)]
-pub extern "C" fn svsc_write_keepalive(buffer: &mut [u8]) -> Written
+pub fn svsc_write_keepalive(buffer: &mut [u8]) -> Written
     ensures { written result buffer.new ≡ write keepalive_message buffer.old }
 {
     put_part(buffer, true, 13, b"")

@@ -1,4 +1,4 @@
-// The writers of types 0 and 1, the versions: a function for each form, exported to C.
+// The writers of types 0 and 1, the versions: a function for each form, for svsc_version_writers_c and the crates above.
 #![tactic(auto)]
 
 ghost use Rattle.std.specs.Prelude.{◌≡◌};
@@ -19,8 +19,7 @@ fn digits(n: u16) -> [u8; 3]
     ]
 }
 
-#[unsafe(no_mangle)]
-pub extern "C" fn svsc_write_version(buffer: &mut [u8], major: u16, minor: u16) -> Written
+pub fn svsc_write_version(buffer: &mut [u8], major: u16, minor: u16) -> Written
     ensures { written result buffer.new ≡ write (protocol_version major minor) buffer.old }
 {
     let xxx = digits(major);
@@ -36,8 +35,7 @@ pub extern "C" fn svsc_write_version(buffer: &mut [u8], major: u16, minor: u16) 
     )
 }
 
-#[unsafe(no_mangle)]
-pub extern "C" fn svsc_write_version_answer(buffer: &mut [u8], ok: u8) -> Written
+pub fn svsc_write_version_answer(buffer: &mut [u8], ok: u8) -> Written
     ensures { written result buffer.new ≡ write (version_answer ok) buffer.old }
 {
     put_part(buffer, ok <= 1, 1, &[ok])
