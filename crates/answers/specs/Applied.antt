@@ -1,6 +1,6 @@
 -- The rules' answers in numbers, as the code has them; and a plan, carried out.
-use Rattle.std.specs.Prelude.{ℕ, true, false, List, length}
-use Rattle.octets.specs.Octets.{if◌then◌else◌, put}
+use Rattle.std.specs.Prelude.{ℕ, true, false, List, length, if◌then◌else◌}
+use Rattle.octets.specs.Octets.{put}
 use Rattle.rules.specs.Sizes.{nobody}
 use Rattle.rules.specs.Calls.{Answer as Ruled}
 use Rattle.rules.specs.Plans.{Plan}

@@ -1,8 +1,7 @@
 // What a call answers, with the map of the connections and the call's record, for C; in specs/, the rules' outcome with both, as C has it.
 #![tactic(auto)]
 
-ghost use Rattle.std.specs.Prelude.{◌≡◌, ◌<◌, eqb};
-ghost use Rattle.octets.specs.Octets.{if◌then◌else◌};
+ghost use Rattle.std.specs.Prelude.{◌≡◌, ◌<◌, eqb, if◌then◌else◌};
 ghost use Rattle.rules.specs.Sizes.{connection_count};
 ghost use Rattle.rules.specs.Calls.{refusal};
 ghost use Rattle.connection_map.specs.Bits.{with_bit, without_bit};

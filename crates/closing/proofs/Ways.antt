@@ -1,11 +1,12 @@
 -- The way out of a close, over plain values. Assumes nothing.
+use Rattle.std.specs.Prelude.{if◌then◌else◌}
 use Prim.Native.Nat.{ℕ}
 use mathlib.Core.Path.{◌≡◌, ap}
 use mathlib.Core.Bool.{true, false}
 use mathlib.Core.Logic.{⊎_elim}
 use mathlib.Core.List.{List}
 use Rattle.rules.specs.Tables.{lent, peer, has_session}
-use Rattle.octets.specs.Octets.{if◌then◌else◌, put}
+use Rattle.octets.specs.Octets.{put}
 use Rattle.octets.proofs.Tests.{by_test}
 use Rattle.rules.specs.Sessions.{clear}
 use Rattle.rules.specs.Leases.{release}

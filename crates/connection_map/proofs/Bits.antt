@@ -1,4 +1,5 @@
 -- Bits of a number: what setting and clearing one does to each, numbers of the same bits, and counts over a window. Over the width. Assumes nothing.
+use Rattle.std.specs.Prelude.{if◌then◌else◌}
 use Prim.Native.Nat.{ℕ, zero, suc, ◌+◌, ◌-◌, ◌*◌, ◌/◌, ◌%◌, ◌^◌, ◌≤◌, ◌<◌}
 use mathlib.Core.Path.{◌≡◌, refl, sym, ap, ap₂, ◌∙◌}
 use mathlib.Core.Bool.{Bool, true, false, not}
@@ -10,7 +11,6 @@ use lib.Bits.{bit_and, bit_or, and_step, or_step, or_zero_r, or_lt, and_mask}
 use lib.Count.{ones, ones_step, count_trailing_zeros, under}
 use lib.Dec.{eqb, eqb-zero-suc, eqb-suc-zero, eqb-suc-suc}
 use borrow.Author.Tests.{eqb-true, eqb-false}
-use Rattle.octets.specs.Octets.{if◌then◌else◌}
 use Rattle.rules.specs.Searches.{first_from}
 use Rattle.rules.proofs.Searches.{first_turn}
 use Rattle.connection_map.specs.Bits.{is_set, with_bit, without_bit, count_from}

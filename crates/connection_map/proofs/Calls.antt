@@ -1,4 +1,5 @@
 -- What a call does to the map: to each bit, and that a map that agreed goes on agreeing. Assumes nothing.
+use Rattle.std.specs.Prelude.{if◌then◌else◌}
 use Prim.Native.Nat.{ℕ, ◌^◌, ◌<◌}
 use mathlib.Core.Path.{◌≡◌, refl, sym, ap, ◌∙◌}
 use mathlib.Core.Logic.{◌≢◌}
@@ -7,7 +8,6 @@ use mathlib.Core.List.{List}
 use native.Mathlib.Decide.{ℕ_discrete}
 use lib.Dec.{eqb}
 use borrow.Author.Tests.{eq-eqb, ne_eqb, eqb-true, not-false}
-use Rattle.octets.specs.Octets.{if◌then◌else◌}
 use Rattle.rules.specs.Sizes.{connection_count}
 use Rattle.rules.specs.Tables.{Tables, is_closed}
 use Rattle.rules.specs.Calls.{Call, opening, message, closing, keepalive, connection_of}

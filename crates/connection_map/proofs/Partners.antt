@@ -1,4 +1,5 @@
 -- What is read of the map: how many connections a partner has, and its lowest closed number. Assumes nothing.
+use Rattle.std.specs.Prelude.{if◌then◌else◌}
 use Prim.Native.Nat.{ℕ, zero, suc, ◌+◌, ◌≤◌, ◌<◌}
 use mathlib.Core.Path.{◌≡◌, refl, sym, ap, ap₂, ◌∙◌}
 use mathlib.Core.Logic.{◌≢◌, ◌↔◌}
@@ -8,7 +9,6 @@ use native.Mathlib.Omega.{arith}
 use native.Mathlib.Decide.{dec_lt}
 use lib.Dec.{ltb, lit≤}
 use borrow.Author.Tests.{lt-ltb, le-ltb, not-false}
-use Rattle.octets.specs.Octets.{if◌then◌else◌}
 use Rattle.rules.specs.Sizes.{partners, connections_per_partner}
 use Rattle.rules.specs.Searches.{first_from}
 use Rattle.rules.specs.Tables.{partner_of, is_closed}

@@ -1,4 +1,5 @@
 -- "one that doesn't agree can be rebuilt": the map of a table agrees with it, and no other does. Assumes nothing.
+use Rattle.std.specs.Prelude.{if◌then◌else◌}
 use Prim.Native.Nat.{ℕ, zero, suc, ◌+◌, ◌^◌, ◌<◌}
 use mathlib.Core.Path.{◌≡◌, refl, sym, ◌∙◌}
 use mathlib.Core.Logic.{◌≢◌, ◌↔◌}
@@ -9,7 +10,6 @@ use native.Mathlib.Omega.{arith}
 use native.Mathlib.Decide.{ℕ_discrete}
 use lib.ListN.{length}
 use borrow.Author.Tests.{eq-eqb, ne_eqb}
-use Rattle.octets.specs.Octets.{if◌then◌else◌}
 use Rattle.rules.specs.Sizes.{connection_count, connections_size}
 use Rattle.rules.specs.Tables.{is_closed}
 use Rattle.connection_map.specs.Bits.{is_set, with_bit}

@@ -1,4 +1,5 @@
 -- Runs with the map: the map agrees at every moment, the tables are those of the run without it, and demand 3 holds. Assumes nothing.
+use Rattle.std.specs.Prelude.{if◌then◌else◌}
 use Prim.Native.Nat.{ℕ, zero, suc, ◌+◌, ◌<◌}
 use mathlib.Core.Path.{◌≡◌, refl, sym, ap, ap₂, ◌∙◌}
 use mathlib.Core.Logic.{◌≢◌}
@@ -8,7 +9,6 @@ use native.Mathlib.Omega.{arith}
 use lib.Dec.{eqb, eqb-suc-zero, lit≤}
 use lib.Pow.{pow_pos}
 use borrow.Author.Tests.{eq-eqb, ne_eqb}
-use Rattle.octets.specs.Octets.{if◌then◌else◌}
 use Rattle.allowance.specs.History.{Entry}
 use Rattle.allowance.specs.Meter.{Metered, Demand3, Fresh}
 use Rattle.allowance.specs.Meter as meter

@@ -1,4 +1,5 @@
 -- Which connections are closed after a call, of those that were before. Assumes nothing.
+use Rattle.std.specs.Prelude.{if◌then◌else◌}
 use Prim.Native.Nat.{ℕ, ◌+◌, ◌%◌, ◌<◌}
 use mathlib.Core.Path.{◌≡◌, refl, sym, ap, ◌∙◌}
 use mathlib.Core.Logic.{◌≢◌, ◌⊎◌, ⊎_elim}
@@ -9,7 +10,7 @@ use native.Mathlib.Decide.{ℕ_discrete}
 use lib.Dec.{eqb, leb, ltb, lit≤}
 use lib.ListN.{length}
 use borrow.Author.Tests.{eq-eqb, ne_eqb}
-use Rattle.octets.specs.Octets.{if◌then◌else◌, byte_at}
+use Rattle.octets.specs.Octets.{byte_at}
 use Rattle.rules.specs.Sizes.{connection_count, connection_bytes, connections_size}
 use Rattle.rules.specs.Searches.{end_row}
 use Rattle.rules.specs.Tables.{Tables, partner_of, connection_at, awaiting, opened, closed, state, is_closed, peer, has_session, set_state}

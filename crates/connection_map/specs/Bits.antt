@@ -1,6 +1,5 @@
 -- Bits of a number, counted from the lowest, which is bit 0.
-use Rattle.std.specs.Prelude.{ℕ, zero, suc, ◌+◌, ◌-◌, ◌/◌, ◌%◌, ◌^◌, Bool, eqb}
-use Rattle.octets.specs.Octets.{if◌then◌else◌}
+use Rattle.std.specs.Prelude.{ℕ, zero, suc, ◌+◌, ◌-◌, ◌/◌, ◌%◌, ◌^◌, Bool, eqb, if◌then◌else◌}
 
 -- bit c is 1
 unfoldable pub is_set : ℕ → ℕ → Bool

@@ -1,6 +1,5 @@
 -- 02, Item 7: "Keep beside the board one 64-bit map, a bit per connection that isn't closed: bit c, from the lowest, for connection c."
-use Rattle.std.specs.Prelude.{ℕ, zero, suc, ◌+◌, ◌*◌, ◌^◌, ◌<◌, ◌≡◌, Bool, not, List, eqb, ltb, length}
-use Rattle.octets.specs.Octets.{if◌then◌else◌}
+use Rattle.std.specs.Prelude.{ℕ, zero, suc, ◌+◌, ◌*◌, ◌^◌, ◌<◌, ◌≡◌, Bool, not, List, eqb, ltb, length, if◌then◌else◌}
 use Rattle.rules.specs.Sizes.{partners, connections_per_partner, connection_count, connections_size, nobody}
 use Rattle.rules.specs.Searches.{first_from}
 use Rattle.rules.specs.Tables.{is_closed}

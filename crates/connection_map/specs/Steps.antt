@@ -1,7 +1,6 @@
 -- Calls, fresh starts and runs with the map beside the tables. What a call answers and does to the tables is as without it. The contracts of the
 -- entry points are equations with these.
-use Rattle.std.specs.Prelude.{ℕ, List, eqb}
-use Rattle.octets.specs.Octets.{if◌then◌else◌}
+use Rattle.std.specs.Prelude.{ℕ, List, eqb, if◌then◌else◌}
 use Rattle.allowance.specs.Meter.{Meter}
 use Rattle.allowance.specs.Meter as meter
 use Rattle.rules.specs.Tables.{Tables}

@@ -1,6 +1,5 @@
 -- What the code's decisions mean, in the rules' terms, and what a message costs by them.
-use Rattle.std.specs.Prelude.{ℕ, ◌+◌, List, eqb, length, drop}
-use Rattle.octets.specs.Octets.{if◌then◌else◌}
+use Rattle.std.specs.Prelude.{ℕ, ◌+◌, List, eqb, length, drop, if◌then◌else◌}
 use Rattle.svsc.specs.Messages.{type_of}
 use Rattle.rules.specs.Sizes.{call_cost}
 use Rattle.rules.specs.Decisions as rules

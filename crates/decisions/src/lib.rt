@@ -3,8 +3,7 @@
 // Sizes and numbers in range are what the checks have shown, and no answer would serve where they fail.
 #![tactic(auto)]
 
-ghost use Rattle.std.specs.Prelude.{◌≡◌, List, ℕ, ◌≤◌, ◌<◌, length};
-ghost use Rattle.octets.specs.Octets.{if◌then◌else◌};
+ghost use Rattle.std.specs.Prelude.{◌≡◌, List, ℕ, ◌≤◌, ◌<◌, length, if◌then◌else◌};
 ghost use Rattle.svsc.specs.Messages.{longest_message, decode};
 ghost use Rattle.rules.specs.Sizes.{connection_count, leases_size, random_bytes};
 ghost use Rattle.rules.specs.Effects.{is_accepted};

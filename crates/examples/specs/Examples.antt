@@ -1,7 +1,7 @@
 -- The twelve worked examples (01, "Marked cases, to be proved") in one table: a row has the example's number, what the definitions give
 -- and what 01 says. A second table fixes the order of the checks.
-use Rattle.std.specs.Prelude.{ℕ, ◌-◌, ◌^◌, Bool, false, ◌≡◌, List, [], ◌∷◌, ◌++◌, map, take, replicate, get_or}
-use Rattle.octets.specs.Octets.{if◌then◌else◌, big_endian}
+use Rattle.std.specs.Prelude.{ℕ, ◌-◌, ◌^◌, Bool, false, ◌≡◌, List, [], ◌∷◌, ◌++◌, map, take, replicate, get_or, if◌then◌else◌}
+use Rattle.octets.specs.Octets.{big_endian}
 use Rattle.svsc.specs.Messages.{longest_message}
 use Rattle.allowance.specs.Bucket.{level_now}
 use Rattle.rules.specs.Sizes.{least_buffer, connection_count}

@@ -1,4 +1,5 @@
 -- What decided a message, what it costs, and what its checks have shown, over plain values. Assumes nothing.
+use Rattle.std.specs.Prelude.{if◌then◌else◌}
 use Prim.Native.Nat.{ℕ, ◌≤◌, ◌<◌}
 use mathlib.Core.Path.{◌≡◌, refl, ◌∙◌}
 use mathlib.Core.Bool.{true, false}
@@ -9,7 +10,7 @@ use native.Mathlib.Decide.{ℕ_discrete}
 use lib.Dec.{eqb}
 use lib.ListN.{length, replicate, length-replicate}
 use borrow.Author.Tests.{eq-eqb, ne_eqb}
-use Rattle.octets.specs.Octets.{if◌then◌else◌, byte_at}
+use Rattle.octets.specs.Octets.{byte_at}
 use Rattle.svsc.specs.Messages.{type_of, decode, from_peer}
 use Rattle.rules.specs.Sizes.{connection_count, allowances_size, greatest_price}
 use Rattle.rules.specs.Tables.{Tables}

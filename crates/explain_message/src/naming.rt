@@ -1,6 +1,5 @@
 // What decided a message, as numbers.
-ghost use Rattle.std.specs.Prelude.{◌≡◌, List, ℕ, eqb};
-ghost use Rattle.octets.specs.Octets.{if◌then◌else◌};
+ghost use Rattle.std.specs.Prelude.{◌≡◌, List, ℕ, eqb, if◌then◌else◌};
 ghost use Rattle.rules.specs.Reasons.{condition_of, status_of, undecided};
 ghost use Rattle.leases.specs.Leases.{meaning as leaseMeaning};
 ghost use Rattle.statuses.specs.Decisions.{decided_as};

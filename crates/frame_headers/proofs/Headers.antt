@@ -1,4 +1,5 @@
 -- The ways out of what reads a header, over plain values. Assumes nothing.
+use Rattle.std.specs.Prelude.{if◌then◌else◌}
 use Prim.Native.Nat.{ℕ, suc, ◌+◌, ◌-◌, ◌*◌, ◌≤◌}
 use mathlib.Core.Path.{◌≡◌, refl}
 use mathlib.Core.Logic.{◌≢◌}
@@ -9,7 +10,6 @@ use lib.Dec.{eqb}
 use lib.ListN.{length, take, drop, get_or}
 use lib.Seq.{take_all}
 use borrow.Author.Tests.{eq-eqb, ne_eqb}
-use Rattle.octets.specs.Octets.{if◌then◌else◌}
 use Rattle.framing.specs.Frames.{frame_type}
 use Rattle.frame_headers.specs.declared.Header.{Header}
 use Rattle.frame_headers.specs.Headers.{reached, refused_byte, behind, read_type, read_low, read_high, read_header}

@@ -1,6 +1,5 @@
 -- What a reader takes of a chunk before the message: the bytes of a header that are missing. Not a part of the rules: what `step` does, byte by byte.
-use Rattle.std.specs.Prelude.{ℕ, ◌+◌, ◌*◌, true, false, List, [], ◌∷◌, eqb}
-use Rattle.octets.specs.Octets.{if◌then◌else◌}
+use Rattle.std.specs.Prelude.{ℕ, ◌+◌, ◌*◌, true, false, List, [], ◌∷◌, eqb, if◌then◌else◌}
 use Rattle.framing.specs.Frames.{frame_type}
 use Rattle.frame_headers.specs.declared.Header.{Header}
 

@@ -1,6 +1,6 @@
 -- What a reader takes of a chunk once the header is there, from a place of it on. Not a part of the rules: what `step` does, as a copy to the buffer.
-use Rattle.std.specs.Prelude.{ℕ, ◌+◌, ◌-◌, ◌*◌, ◌≤◌, ◌<◌, List, ltb, length, drop}
-use Rattle.octets.specs.Octets.{if◌then◌else◌, part, put}
+use Rattle.std.specs.Prelude.{ℕ, ◌+◌, ◌-◌, ◌*◌, ◌≤◌, ◌<◌, List, ltb, length, drop, if◌then◌else◌}
+use Rattle.octets.specs.Octets.{part, put}
 use Rattle.framing.specs.Frames.{message_limit}
 use Rattle.framing.specs.Reading.{state, fresh, Step}
 

@@ -1,4 +1,5 @@
 -- Reading in chunks: whatever the cuts, the messages and the end are those of the whole stream. Assumes nothing.
+use Rattle.std.specs.Prelude.{if◌then◌else◌}
 use Prim.Native.Nat.{ℕ, zero, suc, ◌+◌, ◌-◌, ◌/◌, ◌%◌, ◌^◌, ◌≤◌, ◌<◌}
 use mathlib.Core.Path.{◌≡◌, refl, sym, ap, ap₂, subst, ◌∙◌}
 use mathlib.Core.Logic.{◌≢◌, ◌⊎◌, ◌↔◌, inl, inr, ⊎_elim}
@@ -11,7 +12,7 @@ use lib.Pow.{are_bytes}
 use lib.ListN.{length, take, drop, replicate, length-append, length-drop, length-replicate}
 use lib.Seq.{drop-append-le, drop-append-add, drop-append_seam, take-append_seam}
 use borrow.Author.Tests.{le-ltb, lt-ltb, eq-eqb, ne_eqb}
-use Rattle.octets.specs.Octets.{if◌then◌else◌, byte_at, big_endian, part, put}
+use Rattle.octets.specs.Octets.{byte_at, big_endian, part, put}
 use Rattle.octets.proofs.Tests.{bytes_drop, bytes-part}
 use Rattle.octets.proofs.Stores.{length-put, part-put}
 use Rattle.framing.specs.Frames.{message_limit, frame_length, frame_type, Start, begun, refused, whole, start_of}

@@ -1,7 +1,7 @@
 -- A frame, and what stands at the start of a stream of frames. 02, Item 9: "the paper's section 3.1: data-length 2, type 1, then data-length minus 1
 -- bytes; the number counts the type byte".
-use Rattle.std.specs.Prelude.{ℕ, suc, ◌+◌, ◌-◌, ◌*◌, Bool, true, ◌&&◌, List, [], ◌∷◌, ◌++◌, length, take, eqb, leb, ltb}
-use Rattle.octets.specs.Octets.{if◌then◌else◌, big_endian}
+use Rattle.std.specs.Prelude.{ℕ, suc, ◌+◌, ◌-◌, ◌*◌, Bool, true, ◌&&◌, List, [], ◌∷◌, ◌++◌, length, take, eqb, leb, ltb, if◌then◌else◌}
+use Rattle.octets.specs.Octets.{big_endian}
 use Rattle.svsc.specs.Messages.{longest_message}
 
 -- "must hold 65,534 bytes": the longest message of a frame, whose length has two bytes and counts the type

@@ -1,6 +1,6 @@
 -- A reader: its state as two numbers, one step on a chunk of the stream, and all steps on a list of chunks. 02, Item 9.
-use Rattle.std.specs.Prelude.{ℕ, zero, suc, ◌+◌, ◌-◌, ◌*◌, ◌%◌, Bool, ◌&&◌, ◌||◌, List, [], ◌∷◌, ◌++◌, length, take, drop, eqb, leb, ltb}
-use Rattle.octets.specs.Octets.{if◌then◌else◌, big_endian, put}
+use Rattle.std.specs.Prelude.{ℕ, zero, suc, ◌+◌, ◌-◌, ◌*◌, ◌%◌, Bool, ◌&&◌, ◌||◌, List, [], ◌∷◌, ◌++◌, length, take, drop, eqb, leb, ltb, if◌then◌else◌}
+use Rattle.octets.specs.Octets.{big_endian, put}
 use Rattle.framing.specs.Frames.{message_limit, header_bytes, frame_type, frame_length, Start, begun, refused, whole, start_of}
 use Rattle.framing.specs.Streams.{End, within, refused_after, Parsed}
 

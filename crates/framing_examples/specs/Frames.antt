@@ -1,6 +1,6 @@
 -- Frames (02, Item 9), worked out by hand: steps from any buffer that has room, and what is written.
-use Rattle.std.specs.Prelude.{ℕ, zero, suc, ◌≤◌, ◌≡◌, List, [], ◌∷◌, ◌++◌, map, length, replicate}
-use Rattle.octets.specs.Octets.{if◌then◌else◌, big_endian, number, number_from, put}
+use Rattle.std.specs.Prelude.{ℕ, zero, suc, ◌≤◌, ◌≡◌, List, [], ◌∷◌, ◌++◌, map, length, replicate, if◌then◌else◌}
+use Rattle.octets.specs.Octets.{big_endian, number, number_from, put}
 use Rattle.svsc.specs.Writing.{WriteOutcome, emit}
 use Rattle.framing.specs.Frames.{message_limit, frame_of, frames_of, start_of, start_of_type, start_of_message}
 use Rattle.framing.specs.Streams.{within, refused_after, Parsed, after, parse_start, parse_frames, parse_from, parse}

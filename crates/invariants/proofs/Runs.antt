@@ -1,9 +1,9 @@
 -- What every run from a fresh start keeps. (Demand 3 of such runs: crate rules, Laws.) Assumes nothing.
+use Rattle.std.specs.Prelude.{if◌then◌else◌}
 use Prim.Native.Nat.{ℕ, ◌≤◌}
 use mathlib.Core.Path.{◌≡◌}
 use mathlib.Core.List.{List}
 use lib.Dec.{eqb}
-use Rattle.octets.specs.Octets.{if◌then◌else◌}
 use Rattle.rules.specs.Tables.{Tables, clock}
 use Rattle.rules.specs.Calls.{Call}
 use Rattle.rules.specs.Step.{start}

@@ -1,5 +1,6 @@
 -- A journal that is not contradicted is bounded: its replay keeps the clock and the buckets of its history, and that history is lawful. Assumes
 -- nothing.
+use Rattle.std.specs.Prelude.{if◌then◌else◌}
 use Prim.Native.Nat.{ℕ, ◌+◌, ◌^◌, ◌≤◌, ◌<◌}
 use mathlib.Core.Path.{◌≡◌, refl, sym, ap, ◌∙◌}
 use mathlib.Core.Bool.{Bool, true, false, cond, ◌&&◌}
@@ -9,7 +10,6 @@ use native.Mathlib.Omega.{arith}
 use lib.Dec.{eqb, lit≤}
 use lib.ListN.{length}
 use borrow.Author.Tests.{eqb-true, eqb-false}
-use Rattle.octets.specs.Octets.{if◌then◌else◌}
 use Rattle.octets.proofs.Tests.{and-false}
 use Rattle.octets.proofs.Stores.{length-put}
 use Rattle.allowance.specs.Bucket.{Bucket, full, level_now, spend}

@@ -1,5 +1,6 @@
 -- The two replays agree on every byte string. Two ledgers that are related, and stay so with each done record, judge all journals alike; the allowance
 -- table and the levels are such. Assumes nothing.
+use Rattle.std.specs.Prelude.{if◌then◌else◌}
 use Prim.Native.Nat.{ℕ, zero, suc, ◌+◌, ◌-◌, ◌^◌, ◌≤◌, ◌<◌}
 use mathlib.Core.Path.{◌≡◌, refl, sym, ap, ◌∙◌}
 use mathlib.Core.Logic.{◌≢◌}
@@ -12,7 +13,6 @@ use lib.Dec.{eqb, leb, lit≤, lit<}
 use borrow.Author.Tests.{eqb-true, leb-true, leb-false, not-false}
 use lib.ListN.{length, get_or, length-set, get_or-replicate}
 use lib.Seq.{get_or-set_same, get_or-set_other}
-use Rattle.octets.specs.Octets.{if◌then◌else◌}
 use Rattle.octets.proofs.Tests.{both_right}
 use Rattle.octets.proofs.Stores.{length-put}
 use Rattle.allowance.specs.Bucket.{capacity, Bucket, level_now, spend}

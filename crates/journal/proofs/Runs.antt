@@ -1,4 +1,5 @@
 -- The journal of a run: none of its records contradicts, and what they settle is what the calls do to the allowances. Assumes nothing.
+use Rattle.std.specs.Prelude.{if◌then◌else◌}
 use Prim.Native.Nat.{ℕ, zero, suc, ◌+◌, ◌%◌, ◌≤◌, ◌<◌}
 use mathlib.Core.Path.{◌≡◌, refl, sym, ap, ◌∙◌}
 use mathlib.Core.Logic.{⊎_elim}
@@ -9,7 +10,7 @@ use native.Mathlib.Omega.{arith}
 use lib.Dec.{eqb, leb, ltb, lit≤, lit<}
 use lib.ListN.{length, get_or, get_or-eq_default}
 use borrow.Author.Tests.{eqb-true, eqb-false, leb-false, ltb-false, not-true, eq-eqb, ne_eqb, le-leb}
-use Rattle.octets.specs.Octets.{if◌then◌else◌, byte_at, big_endian}
+use Rattle.octets.specs.Octets.{byte_at, big_endian}
 use Rattle.octets.proofs.Tests.{and-false, both_left, either, either_false, le-or-lt}
 use Rattle.svsc.specs.Messages.{type_of, sent_by_peers, decode, is_some, from_peer}
 use Rattle.allowance.specs.Bucket.{level_now, spend}

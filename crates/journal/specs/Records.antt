@@ -1,6 +1,6 @@
 -- 02, Item 8: "Each call's answer also has a record of 16 bytes, most significant byte first, all zero on 1 to 3".
-use Rattle.std.specs.Prelude.{ℕ, ◌+◌, Bool, ◌&&◌, ◌||◌, List, ◌++◌, replicate, eqb, leb}
-use Rattle.octets.specs.Octets.{if◌then◌else◌, byte_at, big_endian, number_at}
+use Rattle.std.specs.Prelude.{ℕ, ◌+◌, Bool, ◌&&◌, ◌||◌, List, ◌++◌, replicate, eqb, leb, if◌then◌else◌}
+use Rattle.octets.specs.Octets.{byte_at, big_endian, number_at}
 use Rattle.rules.specs.Tables.{Tables}
 use Rattle.rules.specs.Calls.{Call, opening, message, closing, keepalive, time_of, connection_of}
 use Rattle.rules.specs.Charges.{price}

@@ -1,7 +1,6 @@
 -- 02, Item 8: "Replaying a journal from a fresh relay's reading and term, refused as there, gives the allowance table, after a run as the relay had it,
 -- or, writing nothing, names the place of the first record that contradicts the rules."
-use Rattle.std.specs.Prelude.{ℕ, zero, suc, ◌+◌, ◌/◌, ◌%◌, Bool, false, not, List, [], ◌∷◌, eqb, length}
-use Rattle.octets.specs.Octets.{if◌then◌else◌}
+use Rattle.std.specs.Prelude.{ℕ, zero, suc, ◌+◌, ◌/◌, ◌%◌, Bool, false, not, List, [], ◌∷◌, eqb, length, if◌then◌else◌}
 use Rattle.allowance.specs.Bucket.{level_now, spend}
 use Rattle.rules.specs.Sizes.{allowances_size}
 use Rattle.rules.specs.Tables.{partner_of, bucket_of, set_bucket, set_clock, fresh}

@@ -1,6 +1,5 @@
 -- What 02, Item 8, says of the journal of a run, as statements: replaying it "gives the allowance table, after a run as the relay had it".
-use Rattle.std.specs.Prelude.{ℕ, ◌%◌, ◌<◌, ◌≡◌, true, false, List, [], ◌∷◌, ◌++◌, map, length}
-use Rattle.octets.specs.Octets.{if◌then◌else◌}
+use Rattle.std.specs.Prelude.{ℕ, ◌%◌, ◌<◌, ◌≡◌, true, false, List, [], ◌∷◌, ◌++◌, map, length, if◌then◌else◌}
 use Rattle.allowance.specs.History.{own}
 use Rattle.rules.specs.Sizes.{allowances_size}
 use Rattle.rules.specs.Tables.{Tables}

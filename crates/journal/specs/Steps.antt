@@ -1,7 +1,6 @@
 -- Calls and fresh starts with their records, and the journal of a run. What a call answers, and does to the tables and the map, is as without. The
 -- contracts of the entry points are equations with these.
-use Rattle.std.specs.Prelude.{ℕ, List, [], ◌∷◌, ◌++◌}
-use Rattle.octets.specs.Octets.{if◌then◌else◌}
+use Rattle.std.specs.Prelude.{ℕ, List, [], ◌∷◌, ◌++◌, if◌then◌else◌}
 use Rattle.rules.specs.Tables.{Tables}
 use Rattle.rules.specs.Calls.{Call}
 use Rattle.rules.specs.Step.{step}

@@ -1,4 +1,5 @@
 -- Reading on and on from the first byte gives a journal's records, and then its tail or the end. Assumes nothing.
+use Rattle.std.specs.Prelude.{if◌then◌else◌}
 use Prim.Native.Nat.{ℕ, zero, suc, ◌+◌, ◌-◌, ◌*◌, ◌/◌, ◌%◌, ◌≤◌, ◌<◌}
 use mathlib.Core.Path.{◌≡◌, refl, sym, ap, ◌∙◌}
 use mathlib.Core.Logic.{⊎_elim}
@@ -7,7 +8,6 @@ use native.Mathlib.Omega.{arith}
 use lib.Dec.{eqb}
 use lib.ListN.{length}
 use borrow.Author.Tests.{ne_eqb}
-use Rattle.octets.specs.Octets.{if◌then◌else◌}
 use Rattle.octets.proofs.Tests.{le-or-lt}
 use Rattle.journal.specs.Records.{record_bytes, record_at}
 use Rattle.journal.specs.Replays.{records_from, records_of, tail_of}

@@ -1,6 +1,5 @@
 -- What is read on and on, as the laws of proofs/Reading.antt say it.
-use Rattle.std.specs.Prelude.{ℕ, zero, suc, ◌+◌, ◌*◌, ◌/◌, ◌≤◌, ◌<◌, ◌≡◌, List, [], ◌∷◌, ◌++◌, map, eqb, length}
-use Rattle.octets.specs.Octets.{if◌then◌else◌}
+use Rattle.std.specs.Prelude.{ℕ, zero, suc, ◌+◌, ◌*◌, ◌/◌, ◌≤◌, ◌<◌, ◌≡◌, List, [], ◌∷◌, ◌++◌, map, eqb, length, if◌then◌else◌}
 use Rattle.journal.specs.Records.{Record, record_bytes}
 use Rattle.journal.specs.Replays.{records_of, tail_of}
 use Rattle.journal_records.specs.declared.Item.{Item}

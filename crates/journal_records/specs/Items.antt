@@ -1,6 +1,5 @@
 -- What stands at a place of a journal, as the code has it.
-use Rattle.std.specs.Prelude.{ℕ, ◌-◌, List, leb, ltb, length}
-use Rattle.octets.specs.Octets.{if◌then◌else◌}
+use Rattle.std.specs.Prelude.{ℕ, ◌-◌, List, leb, ltb, length, if◌then◌else◌}
 use Rattle.journal.specs.Records.{record_bytes, record_at}
 use Rattle.journal.specs.Records as journal
 use Rattle.journal_records.specs.declared.Record.{Record}

@@ -1,8 +1,8 @@
 // Records of the journal: read at a place, and written.
 #![tactic(auto)]
 
-ghost use Rattle.std.specs.Prelude.{◌≡◌, ◌+◌, ◌≤◌, length};
-ghost use Rattle.octets.specs.Octets.{if◌then◌else◌, byte_at};
+ghost use Rattle.std.specs.Prelude.{◌≡◌, ◌+◌, ◌≤◌, length, if◌then◌else◌};
+ghost use Rattle.octets.specs.Octets.{byte_at};
 ghost use Rattle.rules.specs.Sizes.{open_cost};
 ghost use Rattle.journal.specs.Records.{record_bytes, record_at, unrecorded, priced, record_with, answer_record};
 ghost use Rattle.journal_records.specs.Items.{as_record, item_at};

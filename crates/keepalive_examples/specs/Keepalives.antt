@@ -1,7 +1,7 @@
 -- Connections that are asked, answer, or are dead (02, Item 3), worked out by hand: a row has what the definitions give and what must come
 -- of it.
-use Rattle.std.specs.Prelude.{ℕ, ◌+◌, ◌≡◌, List, [], ◌∷◌, ◌++◌, map, take, replicate}
-use Rattle.octets.specs.Octets.{if◌then◌else◌, big_endian, part, put}
+use Rattle.std.specs.Prelude.{ℕ, ◌+◌, ◌≡◌, List, [], ◌∷◌, ◌++◌, map, take, replicate, if◌then◌else◌}
+use Rattle.octets.specs.Octets.{big_endian, part, put}
 use Rattle.rules.specs.Tables.{Tables, connection_at, opened, set_state, fresh}
 use Rattle.rules.specs.Calls.{Call, opening, message, keepalive, Outcome}
 use Rattle.rules.specs.Step.{step}

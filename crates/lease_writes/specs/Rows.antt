@@ -1,6 +1,5 @@
 -- One step of a close on the lease rows, in the rules' terms.
-use Rattle.std.specs.Prelude.{ℕ, List, eqb}
-use Rattle.octets.specs.Octets.{if◌then◌else◌}
+use Rattle.std.specs.Prelude.{ℕ, List, eqb, if◌then◌else◌}
 use Rattle.rules.specs.Sizes.{nobody}
 use Rattle.rules.specs.Tables.{holder, set_holder}
 

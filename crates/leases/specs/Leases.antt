@@ -1,7 +1,6 @@
 -- What the answers of the code on leases mean: for each case of an enum what it stands for, in the rules' terms.
-use Rattle.std.specs.Prelude.{ℕ, List, ltb}
+use Rattle.std.specs.Prelude.{ℕ, List, ltb, if◌then◌else◌}
 use Rattle.std.proofs.Math.Option.{Option, none, some}
-use Rattle.octets.specs.Octets.{if◌then◌else◌}
 use Rattle.rules.specs.Sizes.{candidate_count}
 use Rattle.rules.specs.Leases as rules
 use Rattle.leases.specs.declared.FreeId.{FreeId}

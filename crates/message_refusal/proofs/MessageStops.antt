@@ -1,4 +1,5 @@
 -- The ways out of the checks of a message, over plain values. Assumes nothing.
+use Rattle.std.specs.Prelude.{if◌then◌else◌}
 use Prim.Native.Nat.{ℕ, ◌≤◌, ◌<◌}
 use mathlib.Core.Path.{◌≡◌, refl, sym, ap, ◌∙◌}
 use mathlib.Core.Bool.{Bool, true, false, not, ◌&&◌, ◌||◌, false≢true}
@@ -7,7 +8,7 @@ use native.Mathlib.Decide.{ℕ_discrete}
 use lib.Dec.{eqb, ltb}
 use lib.ListN.{length, replicate, length-replicate}
 use borrow.Author.Tests.{eq-eqb, ne_eqb, not-false, not-true}
-use Rattle.octets.specs.Octets.{if◌then◌else◌, byte_at}
+use Rattle.octets.specs.Octets.{byte_at}
 use Rattle.svsc.specs.Messages.{type_of, decode, from_peer, longest_message}
 use Rattle.allowance.specs.Bucket.{level_now}
 use Rattle.rules.specs.Sizes.{connection_count, leases_size, allowances_size, random_bytes, nobody}

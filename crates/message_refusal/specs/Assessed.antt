@@ -1,6 +1,5 @@
 -- What is handed on of a message, in the rules' terms. 02, Item 5: checks 1 to 8, then what it will do, then its price, then check 9.
-use Rattle.std.specs.Prelude.{ℕ, List, eqb}
-use Rattle.octets.specs.Octets.{if◌then◌else◌}
+use Rattle.std.specs.Prelude.{ℕ, List, eqb, if◌then◌else◌}
 use Rattle.svsc.specs.Messages.{decode}
 use Rattle.rules.specs.Tables.{Tables}
 use Rattle.rules.specs.Decisions.{Decision, nothing_asked, decide_message}

@@ -1,6 +1,5 @@
 -- What the checks of a message find, but for the last, as the code has it.
-use Rattle.std.specs.Prelude.{ℕ, not, ◌&&◌, List, [], ◌∷◌, eqb}
-use Rattle.octets.specs.Octets.{if◌then◌else◌}
+use Rattle.std.specs.Prelude.{ℕ, not, ◌&&◌, List, [], ◌∷◌, eqb, if◌then◌else◌}
 use Rattle.svsc.specs.Messages.{type_of}
 use Rattle.rules.specs.Sizes.{nobody}
 use Rattle.rules.specs.Tables.{Tables, peer, has_session}

@@ -1,8 +1,7 @@
 // The checks of a message in their order, what it will do, and its price. They only read, and of a buffer they get the length.
 #![tactic(auto)]
 
-ghost use Rattle.std.specs.Prelude.{◌≡◌, List, ℕ, ◌<◌, ltb, length};
-ghost use Rattle.octets.specs.Octets.{if◌then◌else◌};
+ghost use Rattle.std.specs.Prelude.{◌≡◌, List, ℕ, ◌<◌, ltb, length, if◌then◌else◌};
 ghost use Rattle.allowance.specs.Bucket.{level_now};
 ghost use Rattle.rules.specs.Sizes.{connection_count, allowances_size};
 ghost use Rattle.rules.specs.Tables.{lent, partner_of, bucket_of};

@@ -1,5 +1,6 @@
 -- "a peer key to its owner only": who is told which of the random bytes, and that a stored session-id, peer-id or peer-key is told to nobody.
 -- Assumes nothing.
+use Rattle.std.specs.Prelude.{if◌then◌else◌}
 use Prim.Native.Nat.{ℕ, zero, suc, ◌≤◌, ◌<◌}
 use mathlib.Core.Path.{◌≡◌, refl, ◌∙◌}
 use mathlib.Core.Logic.{◌≢◌, ◌⊎◌, inl, inr, ⊎_elim}
@@ -7,7 +8,7 @@ use mathlib.Core.Bool.{Bool, true, false}
 use mathlib.Core.List.{List, [], ◌∷◌}
 use native.Mathlib.Omega.{arith}
 use lib.ListN.{length, length-append, length-take, length-drop}
-use Rattle.octets.specs.Octets.{if◌then◌else◌, part, number_at}
+use Rattle.octets.specs.Octets.{part, number_at}
 use Rattle.svsc.specs.Messages.{establish_request, encode, length_is, when, readings, decode, type_of}
 use Rattle.allowance.specs.Meter as meter
 use Rattle.rules.specs.Tables.{Tables}

@@ -1,5 +1,6 @@
 -- Two tables that differ in some partners' records alone: what is read for the others is the same, and what is written for them stays so.
 -- Assumes nothing.
+use Rattle.std.specs.Prelude.{if◌then◌else◌}
 use Prim.Native.Nat.{ℕ, zero, suc, ◌+◌, ◌/◌, ◌≤◌, ◌<◌}
 use mathlib.Core.Path.{◌≡◌, refl, sym, ap, ◌∙◌, subst}
 use mathlib.Core.Bool.{Bool, true, false, not, ◌&&◌}
@@ -7,7 +8,6 @@ use mathlib.Core.List.{List, [], ◌∷◌}
 use native.Mathlib.Omega.{arith}
 use lib.Dec.{eqb, leb, ltb}
 use borrow.Author.Tests.{ltb-true, eqb-true, not-false}
-use Rattle.octets.specs.Octets.{if◌then◌else◌}
 use Rattle.octets.proofs.Tests.{both_left}
 use Rattle.rules.specs.Sizes.{rows_per_partner, candidate_count, lease_bytes, time_bytes, nobody}
 use Rattle.rules.specs.Searches.{first_from, any_from, first_row, end_row, first_own, any_own}
@@ -23,7 +23,7 @@ use Rattle.rules.proofs.Decisions.{own_row}
 -- ---- searches by tests that agree
 
 -- two choices by tests that agree; each way is compared only where it is taken
-pub if_same {ℓ} : {A : Type ℓ} (x y : Bool) {a b c d : A} → x ≡ y → (x ≡ true → a ≡ b) → (x ≡ false → c ≡ d)
+pub if_same : {A : Type 0} (x y : Bool) {a b c d : A} → x ≡ y → (x ≡ true → a ≡ b) → (x ≡ false → c ≡ d)
     → (if x then a else c) ≡ (if y then b else d)
 if_same true y e f g = rw (← e) (f refl)
 if_same false y e f g = rw (← e) (g refl)

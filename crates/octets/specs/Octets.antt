@@ -4,12 +4,6 @@ use Rattle.std.specs.Prelude.{ℕ, zero, suc, ◌+◌, ◌*◌, ◌/◌, ◌%◌
 use Rattle.std.proofs.lemmas.List.Edits.{sets}
 use Rattle.std.proofs.Math.Pow.{are_bytes}
 
--- the first where the test passes, the second where it fails
-infix 15 if◌then◌else◌
-abbrev pub if◌then◌else◌ {ℓ} : {A : Type ℓ} → Bool → A → A → A
-if true then a else b = a
-if false then a else b = b
-
 -- the byte at a place; 0 past the end
 abbrev pub byte_at : List ℕ → ℕ → ℕ
 byte_at xs at = get_or xs at 0

@@ -1,4 +1,5 @@
 -- The reasons of calls, by the check that answers them, over plain values. Assumes nothing.
+use Rattle.std.specs.Prelude.{if◌then◌else◌}
 use Prim.Native.Nat.{ℕ, zero, suc, ◌≤◌}
 use mathlib.Core.Path.{◌≡◌, refl, sym, ap, ap₂, ◌∙◌}
 use mathlib.Core.Bool.{Bool, true, false, not, ◌&&◌, cond, false≢true, true≢false}
@@ -7,7 +8,6 @@ use native.Mathlib.Omega.{arith}
 use lib.Dec.{eqb, ltb}
 use lib.IntN.{pos, ◌-ℤ◌}
 use borrow.Author.Tests.{eq-eqb, ne_eqb, not-true}
-use Rattle.octets.specs.Octets.{if◌then◌else◌}
 use Rattle.octets.proofs.Tests.{both_left, both_right, and-false}
 use Rattle.allowance.specs.Meter.{verdict}
 use Rattle.rules.specs.Tables.{Tables}

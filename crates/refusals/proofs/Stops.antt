@@ -1,5 +1,6 @@
 -- The numbers of checks: a list of them in two parts, what a number of 0 shows, and the ways out of the functions that check.
 -- Assumes nothing.
+use Rattle.std.specs.Prelude.{if◌then◌else◌}
 use Prim.Native.Nat.{ℕ, suc, ◌+◌, ◌≤◌, ◌<◌}
 use mathlib.Core.Path.{◌≡◌, refl, sym, ap, ◌∙◌}
 use mathlib.Core.Bool.{Bool, true, false, not, ◌&&◌, ◌||◌}
@@ -8,7 +9,6 @@ use native.Mathlib.Omega.{arith}
 use lib.Dec.{eqb, leb, ltb}
 use lib.ListN.{length}
 use borrow.Author.Tests.{eqb-true, leb-false, le-leb, lt-leb, lt-ltb, le-ltb, ltb-false, eq-eqb, ne_eqb, not-false}
-use Rattle.octets.specs.Octets.{if◌then◌else◌}
 use Rattle.octets.proofs.Tests.{both_left, both_right, either_false}
 use Rattle.rules.specs.Sizes.{connection_count, connections_size, leases_size, time_limit, least_buffer, open_cost}
 use Rattle.rules.specs.Tables.{Tables, partner_of, state, is_closed, sized, bucket_of, clock}

@@ -1,10 +1,11 @@
 -- The ways out of a keepalive, over plain values. Assumes nothing.
+use Rattle.std.specs.Prelude.{if◌then◌else◌}
 use Prim.Native.Nat.{ℕ}
 use mathlib.Core.Path.{◌≡◌, ap}
 use mathlib.Core.Bool.{Bool, true, false}
 use mathlib.Core.List.{List}
 use lib.ListN.{length}
-use Rattle.octets.specs.Octets.{if◌then◌else◌, put}
+use Rattle.octets.specs.Octets.{put}
 use Rattle.svsc.specs.Messages.{keepalive_message, encode}
 use Rattle.rules.specs.Tables.{lent, Tables, set_clock}
 use Rattle.rules.specs.Keepalives.{is_dead, is_due, ask, stamp}

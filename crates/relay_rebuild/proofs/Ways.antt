@@ -1,10 +1,10 @@
 -- One more connection, over plain values. Assumes nothing.
+use Rattle.std.specs.Prelude.{if◌then◌else◌}
 use Prim.Native.Nat.{ℕ, suc, ◌+◌, ◌≤◌}
 use mathlib.Core.Path.{◌≡◌, sym, ap, ◌∙◌}
 use mathlib.Core.List.{List}
 use native.Mathlib.Omega.{arith}
 use borrow.Author.Tests.{eq-eqb, ne_eqb}
-use Rattle.octets.specs.Octets.{if◌then◌else◌}
 use Rattle.rules.specs.Sizes.{connection_count}
 use Rattle.rules.specs.Tables.{closed, state, is_closed}
 use Rattle.connection_map.specs.Bits.{with_bit}

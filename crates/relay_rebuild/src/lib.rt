@@ -1,8 +1,7 @@
 // The map of a connection table, for tables that come without one.
 #![tactic(auto)]
 
-ghost use Rattle.std.specs.Prelude.{◌≡◌, ◌<◌};
-ghost use Rattle.octets.specs.Octets.{if◌then◌else◌};
+ghost use Rattle.std.specs.Prelude.{◌≡◌, ◌<◌, if◌then◌else◌};
 ghost use Rattle.rules.specs.Sizes.{connection_count};
 ghost use Rattle.rules.specs.Tables.{is_closed};
 ghost use Rattle.connection_map.specs.Bits.{with_bit};

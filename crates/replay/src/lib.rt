@@ -1,8 +1,7 @@
 // Replaying a journal from a fresh relay, on an allowance table as the relay keeps it.
 #![tactic(auto)]
 
-ghost use Rattle.std.specs.Prelude.{◌≡◌, not, List, ℕ, length};
-ghost use Rattle.octets.specs.Octets.{if◌then◌else◌};
+ghost use Rattle.std.specs.Prelude.{◌≡◌, not, List, ℕ, length, if◌then◌else◌};
 ghost use Rattle.rules.specs.Sizes.{allowances_size};
 ghost use Rattle.journal.specs.Replays.{table_ledger, is_contradicted, advance, concluded, replay_from, replay};
 ghost use Rattle.journal_records.specs.Items.{as_record};

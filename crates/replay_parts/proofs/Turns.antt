@@ -1,4 +1,5 @@
 -- The turns of a replay's loop, of any ledger: it begins at 0, a record is judged and settled, a tail contradicts, and at the end all agrees.
+use Rattle.std.specs.Prelude.{if◌then◌else◌}
 use Prim.Native.Nat.{ℕ, suc, ◌+◌, ◌-◌, ◌/◌, ◌%◌, ◌≤◌, ◌<◌}
 use mathlib.Core.Path.{◌≡◌, ap, ◌∙◌}
 use mathlib.Core.Bool.{true, false}
@@ -8,7 +9,6 @@ use native.Mathlib.Omega.{arith}
 use lib.ListN.{length}
 use borrow.Author.Tests.{ne_eqb, leb-true, le-leb, not-true, not-false}
 use Rattle.octets.proofs.Tests.{both_left, both_right, le-or-lt}
-use Rattle.octets.specs.Octets.{if◌then◌else◌}
 use Rattle.journal.specs.Records.{record_bytes, record_at}
 use Rattle.journal.specs.Replays.{Ledger, agrees, contradicted_at, records_from, records_of, tail_of, is_contradicted, advance, judge, replay_from}
 use Rattle.replay_parts.specs.Turns.{judge_from, passes, taken}

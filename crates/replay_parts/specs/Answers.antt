@@ -1,6 +1,5 @@
 -- What a replay answers, as C has it.
-use Rattle.std.specs.Prelude.{ℕ, List, eqb}
-use Rattle.octets.specs.Octets.{if◌then◌else◌}
+use Rattle.std.specs.Prelude.{ℕ, List, eqb, if◌then◌else◌}
 use Rattle.journal.specs.Replays as journal
 use Rattle.replay_parts.specs.declared.Replayed.{Replayed}
 

@@ -1,10 +1,9 @@
 -- One turn, of what was read at the place.
-use Rattle.std.specs.Prelude.{Bool, false, not}
+use Rattle.std.specs.Prelude.{Bool, false, not, if◌then◌else◌}
 use Rattle.journal_records.specs.declared.Item.{Item}
 use Rattle.journal_records.specs.declared.Item.TheVariants as item
 use Rattle.journal_records.specs.Items.{as_record}
 use Rattle.journal.specs.Replays.{Ledger, is_contradicted, advance}
-use Rattle.octets.specs.Octets.{if◌then◌else◌}
 
 -- it is a record that doesn't contradict
 abbrev pub passes_item : {State : Type 0} → Ledger State → Item → State → Bool

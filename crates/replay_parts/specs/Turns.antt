@@ -1,6 +1,5 @@
 -- A replay from a place on, as the loops have it: what is left to be judged is worked out from the place.
-use Rattle.std.specs.Prelude.{ℕ, ◌+◌, ◌-◌, ◌/◌, ◌%◌, Bool, not, ◌&&◌, List, leb, length}
-use Rattle.octets.specs.Octets.{if◌then◌else◌}
+use Rattle.std.specs.Prelude.{ℕ, ◌+◌, ◌-◌, ◌/◌, ◌%◌, Bool, not, ◌&&◌, List, leb, length, if◌then◌else◌}
 use Rattle.journal.specs.Records.{record_bytes, record_at}
 use Rattle.journal.specs.Replays.{Ledger, Verdict, records_from, is_contradicted, advance, judge}
 

@@ -1,8 +1,7 @@
 // Replaying a journal by filling every level once for each second: the plain way, to check the other by.
 #![tactic(auto)]
 
-ghost use Rattle.std.specs.Prelude.{◌≡◌, not, List, ℕ, length};
-ghost use Rattle.octets.specs.Octets.{if◌then◌else◌};
+ghost use Rattle.std.specs.Prelude.{◌≡◌, not, List, ℕ, length, if◌then◌else◌};
 ghost use Rattle.rules.specs.Sizes.{partners};
 ghost use Rattle.rules.specs.Tables.{partner_of};
 ghost use Rattle.journal.specs.Replays.{is_contradicted, advance, concluded, replay_from};

@@ -1,4 +1,5 @@
 -- What an open and a close do where they are answered with 0: the whole answer, both buffers, and every byte of the tables. Assumes nothing.
+use Rattle.std.specs.Prelude.{if◌then◌else◌}
 use Prim.Native.Nat.{ℕ, ◌+◌}
 use mathlib.Core.Path.{◌≡◌, refl, sym, ◌∙◌}
 use mathlib.Core.Logic.{◌≢◌, inl, inr, ⊎_elim}
@@ -6,7 +7,7 @@ use mathlib.Core.Bool.{true, false}
 use mathlib.Core.List.{List, [], ◌∷◌}
 use native.Mathlib.Omega.{arith}
 use lib.ListN.{length}
-use Rattle.octets.specs.Octets.{if◌then◌else◌, put}
+use Rattle.octets.specs.Octets.{put}
 use Rattle.octets.proofs.Tests.{by_test as either_way}
 use Rattle.svsc.specs.Messages.{digits, encode}
 use Rattle.rules.specs.Sizes.{rows_per_partner, connections_size}

@@ -1,4 +1,5 @@
 -- Which bytes each writing changes; the others are what they were. Assumes nothing.
+use Rattle.std.specs.Prelude.{if◌then◌else◌}
 use Prim.Native.Nat.{ℕ, zero, suc, ◌+◌, ◌≤◌, ◌<◌}
 use mathlib.Core.Path.{◌≡◌, refl, sym, ◌∙◌}
 use mathlib.Core.Logic.{◌⊎◌, inl, inr}
@@ -9,7 +10,7 @@ use native.Mathlib.Decide.{ℕ_discrete}
 use lib.Dec.{eqb, lit≤}
 use lib.ListN.{length, replicate}
 use borrow.Author.Tests.{eqb-true, eq-eqb}
-use Rattle.octets.specs.Octets.{if◌then◌else◌, big_endian, put}
+use Rattle.octets.specs.Octets.{big_endian, put}
 use Rattle.octets.proofs.Numbers.{length-big_endian}
 use Rattle.octets.proofs.Stores.{length-put}
 use Rattle.svsc.specs.Messages.{cookie_bytes}

@@ -1,4 +1,5 @@
 -- Connection records: what each writing leaves in its own record and in the others, and what two joined records hold. Assumes nothing.
+use Rattle.std.specs.Prelude.{if◌then◌else◌}
 use Prim.Native.Nat.{ℕ, zero, suc, ◌+◌, ◌≤◌, ◌<◌}
 use mathlib.Core.Path.{◌≡◌, refl, sym, ap, ◌∙◌}
 use mathlib.Core.Logic.{◌≢◌}
@@ -9,7 +10,7 @@ use lib.Dec.{eqb, leb, lit≤}
 use lib.ListN.{length, replicate, length-append, get_or-replicate}
 use lib.Seq.{take_at, drop_at, take_all, drop-drop}
 use borrow.Author.Tests.{eq-eqb, ne_eqb, eqb-true, eqb-false, not-true}
-use Rattle.octets.specs.Octets.{if◌then◌else◌, byte_at, part}
+use Rattle.octets.specs.Octets.{byte_at, part}
 use Rattle.octets.proofs.Tests.{both_left, both_right}
 use Rattle.octets.proofs.Stores.{length-put, part-put}
 use Rattle.svsc.specs.Messages.{key_bytes}

@@ -1,4 +1,5 @@
 -- What a decision says: a lease that is renewed or granted, an extension's row, a session that is established. Assumes nothing.
+use Rattle.std.specs.Prelude.{if◌then◌else◌}
 use Prim.Native.Nat.{ℕ, ◌≤◌, ◌<◌}
 use mathlib.Core.Path.{◌≡◌, refl, sym, ap, ◌∙◌}
 use mathlib.Core.Logic.{◌≢◌}
@@ -8,7 +9,7 @@ use native.Mathlib.Nat.{mod-lt}
 use native.Mathlib.Omega.{arith}
 use lib.Dec.{eqb, ltb, lit<}
 use borrow.Author.Tests.{lt-ltb, le-ltb, ltb-true, eqb-true, eqb-false, not-true, not-false}
-use Rattle.octets.specs.Octets.{if◌then◌else◌, same}
+use Rattle.octets.specs.Octets.{same}
 use Rattle.octets.proofs.Tests.{both_left, both_right}
 use Rattle.rules.specs.Sizes.{rows_per_partner, candidate_count, id_limit}
 use Rattle.rules.specs.Searches.{first_from, first_row, end_row, first_own}

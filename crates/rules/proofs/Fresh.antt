@@ -1,4 +1,5 @@
 -- Fresh tables as 01 draws them, byte by byte. Assumes nothing.
+use Rattle.std.specs.Prelude.{if◌then◌else◌}
 use Prim.Native.Nat.{ℕ, zero, suc, ◌+◌, ◌*◌, ◌^◌, ◌<◌}
 use mathlib.Core.Path.{◌≡◌, refl, sym, ap, ◌∙◌}
 use mathlib.Core.Bool.{Bool, true, false}
@@ -8,7 +9,7 @@ use native.Mathlib.Decide.{ℕ_discrete}
 use lib.Dec.{eqb, lit<}
 use lib.ListN.{length, replicate}
 use borrow.Author.Tests.{eq-eqb, ne_eqb}
-use Rattle.octets.specs.Octets.{if◌then◌else◌, byte_at, part, big_endian}
+use Rattle.octets.specs.Octets.{byte_at, part, big_endian}
 use Rattle.rules.specs.Sizes.{partners, connection_count, row_count, lease_bytes, time_limit}
 use Rattle.rules.specs.Tables.{lease_at, bucket_of, clock, stored_term, named_term, records, fresh_connection, fresh_lease, bucket_bytes, fresh}
 use Rattle.rules.specs.Effects.{FreshBut}

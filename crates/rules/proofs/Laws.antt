@@ -1,4 +1,5 @@
 -- The laws that a reader wants of every call and every run; those of single effects are in CallLaws and MessageLaws. Assumes nothing.
+use Rattle.std.specs.Prelude.{if◌then◌else◌}
 use Prim.Native.Nat.{ℕ, zero, suc, ◌+◌, ◌-◌, ◌≤◌, ◌<◌}
 use mathlib.Core.Path.{◌≡◌, refl, sym, ◌∙◌}
 use mathlib.Core.Logic.{◌≢◌, ◌⊎◌, inl, inr, ⊎_elim, ◌↔◌}
@@ -7,7 +8,7 @@ use mathlib.Core.List.{List, [], ◌∷◌, ◌++◌}
 use native.Mathlib.Omega.{arith}
 use native.Mathlib.Decide.{ℕ_discrete}
 use borrow.Author.Tests.{eq-eqb}
-use Rattle.octets.specs.Octets.{if◌then◌else◌, big_endian, number_at}
+use Rattle.octets.specs.Octets.{big_endian, number_at}
 use Rattle.allowance.specs.Bucket.{Bucket, level_now}
 use Rattle.allowance.specs.History.{level_from_history, latest, NonePaid}
 use Rattle.rules.specs.Sizes.{partners, nobody}

@@ -1,4 +1,5 @@
 -- A lease is accepted, renewed and extended exactly as 01 and 02 say: the tests of the definitions against their sentences. Assumes nothing.
+use Rattle.std.specs.Prelude.{if◌then◌else◌}
 use Prim.Native.Nat.{ℕ, zero, suc, ◌≤◌, ◌<◌}
 use mathlib.Core.Path.{◌≡◌, refl, sym, ap, ◌∙◌}
 use mathlib.Core.Logic.{◌↔◌, ◌≢◌}
@@ -7,7 +8,7 @@ use mathlib.Core.List.{List}
 use native.Mathlib.Omega.{arith}
 use lib.Dec.{eqb, ltb}
 use borrow.Author.Tests.{eq-eqb, ne_eqb, eqb-true, lt-ltb, le-ltb, ltb-true, not-true, not-false}
-use Rattle.octets.specs.Octets.{if◌then◌else◌, same}
+use Rattle.octets.specs.Octets.{same}
 use Rattle.octets.proofs.Tests.{both_left, both_right}
 use Rattle.octets.proofs.Equality.{same-eq, same_refl}
 use Rattle.rules.specs.Sizes.{rows_per_partner, row_count, candidate_count}

@@ -1,4 +1,5 @@
 -- What a message sent to a connection, a message from it and a keepalive write to its record, and what they leave. Assumes nothing.
+use Rattle.std.specs.Prelude.{if◌then◌else◌}
 use Prim.Native.Nat.{ℕ, ◌+◌, ◌-◌, ◌%◌, ◌≤◌, ◌<◌}
 use mathlib.Core.Path.{◌≡◌, sym, ap, ◌∙◌}
 use mathlib.Core.Logic.{◌≢◌, ◌⊎◌, ◌↔◌}
@@ -9,7 +10,7 @@ use native.Mathlib.Decide.{ℕ_discrete}
 use lib.Dec.{eqb, leb}
 use lib.ListN.{length}
 use borrow.Author.Tests.{eq-eqb, ne_eqb, eqb-false}
-use Rattle.octets.specs.Octets.{if◌then◌else◌, byte_at, big_endian, part, number_at, put}
+use Rattle.octets.specs.Octets.{byte_at, big_endian, part, number_at, put}
 use Rattle.octets.proofs.Numbers.{length-big_endian}
 use Rattle.octets.proofs.Stores.{length-put, part-put, number_at-put}
 use Rattle.rules.specs.Sizes.{connection_count, connection_bytes, connections_size, time_bytes, time_limit, keepalive_timeout, answer_timeout}

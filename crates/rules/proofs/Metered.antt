@@ -1,4 +1,5 @@
 -- The relay is metered as 01 says. Assumes nothing.
+use Rattle.std.specs.Prelude.{if◌then◌else◌}
 use Prim.Native.Nat.{ℕ, ◌*◌, ◌≤◌, ◌<◌, min}
 use mathlib.Core.Path.{◌≡◌, refl, sym, ap, ◌∙◌}
 use mathlib.Core.Bool.{Bool, true, false, cond, ◌&&◌}
@@ -9,7 +10,6 @@ use lib.Dec.{eqb, lit≤}
 use lib.ListN.{length}
 use borrow.Author.Tests.{eqb-true, eqb-false}
 use Rattle.octets.proofs.Stores.{length-put}
-use Rattle.octets.specs.Octets.{if◌then◌else◌}
 use Rattle.allowance.specs.Bucket.{capacity, refill_rate, Bucket, spend}
 use Rattle.allowance.specs.Meter.{Metered}
 use Rattle.allowance.proofs.Numbers.{level≤capacity}

@@ -1,4 +1,5 @@
 -- What is shown of each kind of plan holds of what every call that passed the first eight checks asks for. Assumes nothing.
+use Rattle.std.specs.Prelude.{if◌then◌else◌}
 use Prim.Native.Nat.{ℕ, suc}
 use mathlib.Core.Path.{◌≡◌, refl}
 use mathlib.Core.Logic.{◌⊎◌, inl, inr, ⊎_elim}
@@ -8,7 +9,7 @@ use mathlib.Core.List.{List, []}
 use lib.Dec.{eqb}
 use lib.ListN.{length}
 use borrow.Author.Tests.{eq-eqb}
-use Rattle.octets.specs.Octets.{if◌then◌else◌, part}
+use Rattle.octets.specs.Octets.{part}
 use Rattle.svsc.specs.Messages.{Message, protocol_version, version_answer, lease_request, lease_request_with_cookie, lease_refused, lease_granted, extension_request, extension_refused, extension_granted, establish_request, establish_refused, established, establish_notification, session_end, session_end_notification, data_send, data_receive, keepalive_message, encode, type_of, decode, from_peer}
 use Rattle.rules.specs.Sizes.{random_bytes}
 use Rattle.rules.specs.Tables.{Tables, opened, state, is_open, peer, has_session}

@@ -1,4 +1,5 @@
 -- What each call costs as a number: the bytes that it sends are known from what was decided. Assumes nothing.
+use Rattle.std.specs.Prelude.{if◌then◌else◌}
 use Prim.Native.Nat.{ℕ, ◌+◌, ◌*◌, ◌≤◌}
 use mathlib.Core.Path.{◌≡◌, refl, ap, ◌∙◌}
 use mathlib.Core.Logic.{◌≢◌, ◌⊎◌, inl, inr, ⊎_elim, ◌↔◌}
@@ -10,7 +11,7 @@ use native.Mathlib.Decide.{ℕ_discrete}
 use lib.Dec.{eqb, ltb, lit≤}
 use lib.ListN.{length, length-append, drop}
 use borrow.Author.Tests.{eq-eqb, ne_eqb}
-use Rattle.octets.specs.Octets.{if◌then◌else◌, part, number_at, big_endian}
+use Rattle.octets.specs.Octets.{part, number_at, big_endian}
 use Rattle.octets.proofs.Numbers.{length-big_endian}
 use Rattle.octets.proofs.Parts.{length_part}
 use Rattle.svsc.specs.Messages.{lease_granted, established, establish_notification, longest_message, cookie_bytes, Message, version_answer, extension_request, establish_request, data_send, keepalive_message, type_of, encode, decode, digits, from_peer}

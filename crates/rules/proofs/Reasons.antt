@@ -1,4 +1,5 @@
 -- The reason that is named is the true one (02, Item 1): the check that stops a call, what decided it, and its headroom. Assumes nothing.
+use Rattle.std.specs.Prelude.{if◌then◌else◌}
 use Prim.Native.Nat.{ℕ, zero, suc, ◌+◌, ◌-◌, ◌*◌, ◌≤◌, ◌<◌, min, ◌^◌}
 use mathlib.Core.Path.{◌≡◌, refl, sym, ap, ap₂, ◌∙◌}
 use mathlib.Core.Logic.{◌≢◌, ◌⊎◌, inl, inr, ⊎_elim, ◌↔◌}
@@ -12,7 +13,7 @@ use lib.Dec.{eqb, lit<}
 use lib.ListN.{length, get_or, get_or-append, get_or-eq_default}
 use lib.IntN.{ℤ, pos, negsuc, ◌-ℤ◌}
 use borrow.Author.Tests.{eq-eqb, ne_eqb, eqb-true, lt-ltb, le-ltb}
-use Rattle.octets.specs.Octets.{if◌then◌else◌, byte_at, part, number_at, big_endian, put}
+use Rattle.octets.specs.Octets.{byte_at, part, number_at, big_endian, put}
 use Rattle.octets.proofs.Tests.{both_left, both_right}
 use Rattle.octets.proofs.Numbers.{length-big_endian}
 use Rattle.octets.proofs.Stores.{length-put, part-put, number_at-put, number_at-behind}

@@ -1,4 +1,5 @@
 -- Lease rows: what each writing leaves in its own row and in the others. Assumes nothing.
+use Rattle.std.specs.Prelude.{if◌then◌else◌}
 use Prim.Native.Nat.{ℕ, zero, suc, ◌+◌, ◌^◌, ◌≤◌, ◌<◌}
 use mathlib.Core.Path.{◌≡◌, sym, ap, ◌∙◌}
 use mathlib.Core.Bool.{Bool, true, false}
@@ -7,7 +8,7 @@ use native.Mathlib.Nat.{lt_of_lt_of_le}
 use native.Mathlib.Omega.{arith}
 use lib.Dec.{eqb, lit≤}
 use lib.ListN.{length}
-use Rattle.octets.specs.Octets.{if◌then◌else◌, big_endian, part}
+use Rattle.octets.specs.Octets.{big_endian, part}
 use Rattle.octets.proofs.Numbers.{length-big_endian}
 use Rattle.octets.proofs.Stores.{length-put, part-put, number_at-put, number_at-before}
 use Rattle.svsc.specs.Messages.{cookie_bytes}

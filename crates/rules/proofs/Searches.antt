@@ -1,10 +1,10 @@
 -- Searches by number: what the first that passes is, and what it is when none does. Assumes nothing.
+use Rattle.std.specs.Prelude.{if◌then◌else◌}
 use Prim.Native.Nat.{ℕ, zero, suc, ◌+◌, ◌≤◌, ◌<◌}
 use mathlib.Core.Path.{◌≡◌, refl, sym, ap, ◌∙◌}
 use mathlib.Core.Bool.{Bool, true, false, true≢false, false≢true}
 use native.Mathlib.Omega.{arith}
 use native.Mathlib.Decide.{ℕ_discrete, dec_lt}
-use Rattle.octets.specs.Octets.{if◌then◌else◌}
 use Rattle.rules.specs.Searches.{first_from, any_from}
 
 -- One turn of each.

@@ -1,4 +1,5 @@
 -- Sessions: what an accepted establish request leaves, what an ended session leaves, and where anything is relayed. Assumes nothing.
+use Rattle.std.specs.Prelude.{if◌then◌else◌}
 use Prim.Native.Nat.{ℕ, ◌+◌, ◌≤◌, ◌<◌}
 use mathlib.Core.Path.{◌≡◌, refl, sym, ap, ◌∙◌}
 use mathlib.Core.Logic.{◌≢◌, ◌⊎◌, inl, inr}
@@ -7,7 +8,7 @@ use mathlib.Core.List.{List, [], ◌++◌}
 use native.Mathlib.Omega.{arith}
 use lib.Dec.{eqb, ltb, lit≤}
 use lib.ListN.{length}
-use Rattle.octets.specs.Octets.{if◌then◌else◌, part}
+use Rattle.octets.specs.Octets.{part}
 use Rattle.octets.proofs.Parts.{length_part}
 use Rattle.svsc.specs.Messages.{key_bytes, encode}
 use Rattle.rules.specs.Sizes.{connection_count, connections_size, random_bytes, nobody}

@@ -1,4 +1,5 @@
 -- A plan writes to records of its own partner and sends to its own partner alone. Assumes nothing.
+use Rattle.std.specs.Prelude.{if◌then◌else◌}
 use Prim.Native.Nat.{ℕ}
 use mathlib.Core.Path.{◌≡◌, refl, sym}
 use mathlib.Core.Logic.{◌≢◌}
@@ -7,7 +8,6 @@ use mathlib.Core.List.{List, []}
 use native.Mathlib.Omega.{arith}
 use lib.Dec.{eqb, ltb}
 use lib.ListN.{length}
-use Rattle.octets.specs.Octets.{if◌then◌else◌}
 use Rattle.svsc.specs.Messages.{cookie_bytes}
 use Rattle.rules.specs.Sizes.{rows_per_partner, connection_bytes, lease_bytes, nobody}
 use Rattle.rules.specs.Searches.{first_row, end_row}

@@ -1,6 +1,5 @@
 -- What a call costs, what it is charged, and the allowances after it (01, "Charges"; 02, Item 5).
-use Rattle.std.specs.Prelude.{ℕ, ◌+◌, Bool, true, false, not, List, length, eqb}
-use Rattle.octets.specs.Octets.{if◌then◌else◌}
+use Rattle.std.specs.Prelude.{ℕ, ◌+◌, Bool, true, false, not, List, length, eqb, if◌then◌else◌}
 use Rattle.svsc.specs.Messages.{type_of}
 use Rattle.allowance.specs.Bucket.{level_now, spend}
 use Rattle.rules.specs.Sizes.{call_cost}

@@ -1,7 +1,7 @@
 -- What 01, "Effects", and 02, Item 3, say of each call that is done, as statements: what is sent to whom, and what stands in the tables afterwards, byte by
 -- byte. 01's numbers stand here as numbers, but for the sizes of records and the number of rows.
-use Rattle.std.specs.Prelude.{ℕ, ◌+◌, ◌*◌, ◌%◌, ◌≤◌, ◌<◌, ◌≡◌, ◌≢◌, ◌⊎◌, ◌↔◌, Bool, true, false, List, eqb, length, replicate}
-use Rattle.octets.specs.Octets.{if◌then◌else◌, byte_at, big_endian, part, number_at, put}
+use Rattle.std.specs.Prelude.{ℕ, ◌+◌, ◌*◌, ◌%◌, ◌≤◌, ◌<◌, ◌≡◌, ◌≢◌, ◌⊎◌, ◌↔◌, Bool, true, false, List, eqb, length, replicate, if◌then◌else◌}
+use Rattle.octets.specs.Octets.{byte_at, big_endian, part, number_at, put}
 use Rattle.svsc.specs.Messages.{established, establish_notification, keepalive_message, encode}
 use Rattle.rules.specs.Sizes.{row_count, connection_bytes, lease_bytes}
 use Rattle.rules.specs.Searches.{end_row}

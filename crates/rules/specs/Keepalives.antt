@@ -1,6 +1,5 @@
 -- Dead connections (02, Item 3): when a connection is dead and when it is asked, and what is written of what it is sent and of its answers.
-use Rattle.std.specs.Prelude.{ℕ, ◌-◌, Bool, not, ◌&&◌, List, eqb, leb}
-use Rattle.octets.specs.Octets.{if◌then◌else◌}
+use Rattle.std.specs.Prelude.{ℕ, ◌-◌, Bool, not, ◌&&◌, List, eqb, leb, if◌then◌else◌}
 use Rattle.rules.specs.Sizes.{keepalive_timeout, answer_timeout}
 use Rattle.rules.specs.Tables.{is_unanswered, last_sent, keepalive_sent, set_unanswered, set_last_sent, set_keepalive_sent}
 

@@ -1,6 +1,6 @@
 -- Lease and Extension (01, "Effects"; 02, Items 2 and 6): what decides, and what is written to the rows; and which rows a close gives back.
-use Rattle.std.specs.Prelude.{ℕ, zero, suc, ◌+◌, ◌*◌, ◌%◌, Bool, not, ◌&&◌, List, eqb, ltb}
-use Rattle.octets.specs.Octets.{if◌then◌else◌, part, number_at, same}
+use Rattle.std.specs.Prelude.{ℕ, zero, suc, ◌+◌, ◌*◌, ◌%◌, Bool, not, ◌&&◌, List, eqb, ltb, if◌then◌else◌}
+use Rattle.octets.specs.Octets.{part, number_at, same}
 use Rattle.svsc.specs.Messages.{cookie_bytes}
 use Rattle.rules.specs.Sizes.{rows_per_partner, row_count, nobody, candidate_count, candidate_bytes, id_limit}
 use Rattle.rules.specs.Searches.{first_from, any_from, first_row, end_row, first_own, any_own}

@@ -1,7 +1,6 @@
 -- What a call that passes the checks would do: what is sent, and the tables afterwards (01, "Effects"; 02, Item 3).
-use Rattle.std.specs.Prelude.{ℕ, Bool, true, false, List, [], eqb, ltb, length}
+use Rattle.std.specs.Prelude.{ℕ, Bool, true, false, List, [], eqb, ltb, length, if◌then◌else◌}
 use Rattle.std.proofs.Math.Option.{Option}
-use Rattle.octets.specs.Octets.{if◌then◌else◌}
 use Rattle.svsc.specs.Messages.{Message, protocol_version, lease_refused, lease_granted, extension_refused, extension_granted, establish_refused, established, establish_notification, session_end_notification, data_receive, keepalive_message, encode, decode}
 use Rattle.rules.specs.Sizes.{nobody}
 use Rattle.rules.specs.Searches.{end_row}

@@ -1,6 +1,6 @@
 -- What a call costs as a number, so that no plan has to be followed (02, Item 5), as statements.
-use Rattle.std.specs.Prelude.{ℕ, suc, ◌+◌, ◌*◌, ◌≤◌, ◌≡◌, ◌⊎◌, ◌↔◌, List, ltb, length}
-use Rattle.octets.specs.Octets.{if◌then◌else◌, part, number_at}
+use Rattle.std.specs.Prelude.{ℕ, suc, ◌+◌, ◌*◌, ◌≤◌, ◌≡◌, ◌⊎◌, ◌↔◌, List, ltb, length, if◌then◌else◌}
+use Rattle.octets.specs.Octets.{part, number_at}
 use Rattle.svsc.specs.Messages.{type_of}
 use Rattle.rules.specs.Searches.{end_row}
 use Rattle.rules.specs.Tables.{Tables, partner_of}

@@ -1,8 +1,8 @@
 -- Why a call is answered as it is (02, Item 1): "names the first check that stops the call, or, for a done lease or establish, the condition
 -- that decided it"; "also gives the headroom".
-use Rattle.std.specs.Prelude.{ℕ, ◌&&◌, eqb, ℤ, pos, ◌-ℤ◌}
+use Rattle.std.specs.Prelude.{ℕ, ◌&&◌, eqb, ℤ, pos, ◌-ℤ◌, if◌then◌else◌}
 use Rattle.std.proofs.Math.Option.{Option, none, some}
-use Rattle.octets.specs.Octets.{if◌then◌else◌, part, number_at}
+use Rattle.octets.specs.Octets.{part, number_at}
 use Rattle.svsc.specs.Messages.{type_of}
 use Rattle.rules.specs.Tables.{Tables}
 use Rattle.rules.specs.Leases.{LeaseDecision, holds_lease, no_spare_row, cookie_in_use, no_free_id, renewed, granted, decide_lease}

@@ -1,7 +1,6 @@
 -- The sentences of 01's checks, and of 02, Items 3 and 6, as statements: what each check of a call is proved to be, in both directions.
-use Rattle.std.specs.Prelude.{ℕ, ◌-◌, ◌≤◌, ◌<◌, max, ◌≡◌, ◌≢◌, ◌⊎◌, ◌↔◌, Bool, true, false, ◌||◌, List, [], ◌∷◌, eqb, length, get_or}
+use Rattle.std.specs.Prelude.{ℕ, ◌-◌, ◌≤◌, ◌<◌, max, ◌≡◌, ◌≢◌, ◌⊎◌, ◌↔◌, Bool, true, false, ◌||◌, List, [], ◌∷◌, eqb, length, get_or, if◌then◌else◌}
 use Rattle.std.proofs.Math.Option.{some}
-use Rattle.octets.specs.Octets.{if◌then◌else◌}
 use Rattle.svsc.specs.Messages.{Message, type_of, decode}
 use Rattle.allowance.specs.Bucket.{level_now}
 use Rattle.rules.specs.Sizes.{connection_count, connections_size, leases_size, allowances_size, time_limit, random_bytes, least_buffer}

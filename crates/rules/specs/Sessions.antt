@@ -1,6 +1,6 @@
 -- Establish and Type 9 (01, "Effects"): what decides, and what is written to the connections; and the records of an open and of a close.
-use Rattle.std.specs.Prelude.{ℕ, not, List, ◌++◌, replicate, eqb, ltb}
-use Rattle.octets.specs.Octets.{if◌then◌else◌, part, put}
+use Rattle.std.specs.Prelude.{ℕ, not, List, ◌++◌, replicate, eqb, ltb, if◌then◌else◌}
+use Rattle.octets.specs.Octets.{part, put}
 use Rattle.svsc.specs.Messages.{key_bytes}
 use Rattle.rules.specs.Sizes.{nobody}
 use Rattle.rules.specs.Searches.{end_row, first_own}

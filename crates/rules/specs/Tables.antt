@@ -1,7 +1,7 @@
 -- The three tables (01's board): their fields, and how they are read whatever they hold. 01, "The board".
 -- A definition reads the table that it needs. A byte past the end of a table is 0, so that each of them has a value at any number.
-use Rattle.std.specs.Prelude.{ℕ, zero, suc, ◌+◌, ◌*◌, ◌/◌, Bool, not, ◌&&◌, List, [], ◌∷◌, ◌++◌, length, replicate, eqb, leb, ltb}
-use Rattle.octets.specs.Octets.{if◌then◌else◌, byte_at, big_endian, part, number_at, put}
+use Rattle.std.specs.Prelude.{ℕ, zero, suc, ◌+◌, ◌*◌, ◌/◌, Bool, not, ◌&&◌, List, [], ◌∷◌, ◌++◌, length, replicate, eqb, leb, ltb, if◌then◌else◌}
+use Rattle.octets.specs.Octets.{byte_at, big_endian, part, number_at, put}
 use Rattle.svsc.specs.Messages.{cookie_bytes, key_bytes}
 use Rattle.allowance.specs.Bucket.{Bucket, full}
 use Rattle.rules.specs.Sizes.{partners, connections_per_partner, rows_per_partner, connection_count, row_count, connection_bytes, lease_bytes, allowance_bytes, connections_size, leases_size, allowances_size, time_bytes, nobody, default_term, shortest_term, longest_term, old_term}

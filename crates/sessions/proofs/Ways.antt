@@ -1,4 +1,5 @@
 -- The ways out of the version answer, the end of a session and data, over plain values. Assumes nothing.
+use Rattle.std.specs.Prelude.{if◌then◌else◌}
 use Prim.Native.Nat.{ℕ, suc, ◌≤◌, ◌<◌}
 use mathlib.Core.Path.{◌≡◌, refl, ◌∙◌}
 use mathlib.Core.Bool.{Bool, true, false}
@@ -6,7 +7,7 @@ use mathlib.Core.List.{List, [], ◌∷◌}
 use native.Mathlib.Omega.{arith}
 use lib.ListN.{length, drop}
 use borrow.Author.Tests.{ne_eqb}
-use Rattle.octets.specs.Octets.{if◌then◌else◌, put}
+use Rattle.octets.specs.Octets.{put}
 use Rattle.svsc.specs.Messages.{session_end_notification, data_receive, encode, longest_message}
 use Rattle.svsc.specs.Copying.{copied, copy_data}
 use Rattle.svsc.proofs.Copying.{copied_all}

@@ -2,8 +2,7 @@
 // shown, and no answer would serve where they fail.
 #![tactic(auto)]
 
-ghost use Rattle.std.specs.Prelude.{◌≡◌, List, ℕ, ◌≤◌, length, drop};
-ghost use Rattle.octets.specs.Octets.{if◌then◌else◌};
+ghost use Rattle.std.specs.Prelude.{◌≡◌, List, ℕ, ◌≤◌, length, drop, if◌then◌else◌};
 ghost use Rattle.rules.specs.Sizes.{least_buffer};
 ghost use Rattle.rules.specs.Tables.{lent, peer, has_session};
 ghost use Rattle.rules.specs.Plans.{plan_version_answer, plan_end, plan_data, do_nothing};

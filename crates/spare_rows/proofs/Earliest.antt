@@ -1,4 +1,5 @@
 -- The search row by row finds the row of a new lease: what the row found so far is, turn by turn, and at the end. Assumes nothing.
+use Rattle.std.specs.Prelude.{if◌then◌else◌}
 use Prim.Native.Nat.{ℕ, zero, suc, ◌+◌, ◌-◌, ◌≤◌, ◌<◌}
 use mathlib.Core.Path.{◌≡◌, refl, sym, ap, ◌∙◌}
 use mathlib.Core.Logic.{◌⊎◌, inl, inr, ⊎_elim}
@@ -9,7 +10,6 @@ use native.Mathlib.Omega.{arith}
 use native.Mathlib.Decide.{ℕ_discrete}
 use lib.Dec.{eqb, ltb}
 use borrow.Author.Tests.{eqb-true, eqb-false, ltb-true, ltb-false}
-use Rattle.octets.specs.Octets.{if◌then◌else◌}
 use Rattle.rules.specs.Sizes.{rows_per_partner}
 use Rattle.rules.specs.Searches.{first_row, end_row}
 use Rattle.rules.specs.Tables.{expiry, live}

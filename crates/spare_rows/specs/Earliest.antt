@@ -1,6 +1,5 @@
 -- The search for the row with the earliest expiry among those that aren't live, row by row.
-use Rattle.std.specs.Prelude.{ℕ, zero, suc, List, eqb, ltb}
-use Rattle.octets.specs.Octets.{if◌then◌else◌}
+use Rattle.std.specs.Prelude.{ℕ, zero, suc, List, eqb, ltb, if◌then◌else◌}
 use Rattle.rules.specs.Tables.{expiry, live}
 
 -- the better of the row found so far, which is the end if none is, and row r behind it

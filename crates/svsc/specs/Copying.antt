@@ -1,6 +1,5 @@
 -- The copying of sent data into the message that its receiver gets. 02, Item 4.
-use Rattle.std.specs.Prelude.{ℕ, suc, List, ◌∷◌, ◌++◌, length, drop, ltb}
-use Rattle.octets.specs.Octets.{if◌then◌else◌}
+use Rattle.std.specs.Prelude.{ℕ, suc, List, ◌∷◌, ◌++◌, length, drop, ltb, if◌then◌else◌}
 
 -- how many bytes were written, and the buffer afterwards
 pub record Copied : Type 0 where

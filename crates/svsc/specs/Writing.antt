@@ -1,6 +1,6 @@
 -- What a writer leaves. 01 'Messages, by first byte', 'Answer numbers and their order'.
-use Rattle.std.specs.Prelude.{ℕ, Bool, not, List, length, ltb}
-use Rattle.octets.specs.Octets.{if◌then◌else◌, put}
+use Rattle.std.specs.Prelude.{ℕ, Bool, not, List, length, ltb, if◌then◌else◌}
+use Rattle.octets.specs.Octets.{put}
 use Rattle.svsc.specs.Messages.{Message, encode, well_formed}
 use Rattle.svsc.specs.declared.Written.{Written}
 
