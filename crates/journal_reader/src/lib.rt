@@ -1,5 +1,5 @@
-// A reader of a journal: a struct that holds the bytes and a place in them, and thin functions over it. The borrow checker covers no function over
-// such a struct: each takes it apart and leaves the work to a covered one on the slice and the number.
+// A reader of a journal: a struct that holds the bytes and a place in them, and thin functions over it. Each takes it apart and leaves the work to
+// one on the slice and the number.
 #![tactic(auto)]
 
 ghost use Rattle.std.specs.Prelude.{◌≡◌};
