@@ -2,8 +2,10 @@
 
 use std::fs::{self, Permissions};
 use std::os::unix::fs::{chown, symlink, MetadataExt, PermissionsExt};
-use std::path::Path;
+use std::path::{Path, PathBuf};
 use std::process::{Command, Stdio};
+
+use tempfile::TempDir;
 
 use super::{kill, line, Scene, Scripted};
 use crate::support::{files, run, Ended, Relay, Running, PROGRAM};
@@ -58,13 +60,20 @@ fn a_file_that_is_no_cookie_is_left_alone() {
     assert_eq!(files(&scene.folder), 2, "the file to send and the other");
 }
 
+/// A link, in a folder outside the repository, below which `rt ci` takes none.
+fn link_to(path: &Path) -> (TempDir, PathBuf) {
+    let folder = tempfile::tempdir().expect("a folder");
+    let link = folder.path().join("link");
+    symlink(path, &link).expect("a link");
+    (folder, link)
+}
+
 /// The received file would replace the cookie.
 #[test]
 fn a_link_to_the_place_of_the_received_file_is_an_error() {
     let (relay, scene) = (Scripted::new(), Scene::new("cookie_link"));
-    let link = scene.folder.join("link");
+    let (_folder, link) = link_to(&scene.cookie);
     fs::write(&scene.cookie, line(&COOKIE)).expect("a file");
-    symlink("cookie", &link).expect("a link");
     let ended = run(&[&relay.arguments(&scene.cookie, &link)[..], &["--force"]].concat());
     assert_eq!((ended.status, &*ended.stdout), (Some(2), ""), "{}", ended.stderr);
     assert_eq!(ended.last_line(), "crondelith: FILE and the cookie file are the same");
@@ -76,9 +85,8 @@ fn a_link_to_the_place_of_the_received_file_is_an_error() {
 #[test]
 fn a_received_file_replaces_nothing_beside_the_cookie() {
     let (relay, scene) = (Scripted::new(), Scene::new("cookie_beside"));
-    let link = scene.folder.join("link");
+    let (_folder, link) = link_to(&scene.cookie);
     fs::write(&scene.cookie, line(&COOKIE)).expect("a file");
-    symlink("cookie", &link).expect("a link");
     let refused = |beside: &Path, cookie: &Path, reason: &str| {
         let ended = run(&[&relay.arguments(beside, cookie)[..], &["--force"]].concat());
         assert_eq!((ended.status, &*ended.stdout), (Some(2), ""), "{}", ended.stderr);
