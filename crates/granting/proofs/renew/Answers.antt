@@ -4,8 +4,7 @@ use Rattle.granting.proofs.renew.Goals as goal
 
 pub tell-answer-requires : goal.tell-answer-requires
 tell-answer-requires c =
-    let s = c in
-    (s.requires.0.room, rw c.cookie_of.ensures (cookie-length s.args.leases.now s.args.row s.requires.0.size s.requires.1))
+    (c.requires.0.room, rw c.cookie_of.ensures (cookie-length c.args.leases.now c.args.row c.requires.0.size c.requires.1))
 
 pub returns : goal.returns
 returns c cs relay =

@@ -1,4 +1,4 @@
--- `decide_lease`: a law for each way out. e and k are the places behind the calls of `end_row` and `cookie_taken`.
+-- `decide_lease`: a law for each way out.
 use Rattle.leases.proofs.LeaseDecisions.{holds_lease_lem, no_spare-row, cookie_in_use_lem, no_free_id_lem, renews_or_grants}
 use native.Mathlib.Omega.{arith}
 use Rattle.leases.proofs.decide_lease.Goals as goal

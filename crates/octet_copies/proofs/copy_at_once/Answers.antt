@@ -10,10 +10,8 @@ store-requires c = c.requires.0
 
 pub store-requires-2 : goal.store-requires-2
 store-requires-2 c =
-    let s = c in
-    omega (arith, length-take (length s.args.bytes.now - 0) c.store.new.t, s.requires.1)
+    omega (arith, length-take (length c.args.bytes.now - 0) c.store.new.t, c.requires.1)
 
 pub returns : goal.returns
 returns c =
-    let s = c in
-    by_array _ _ s.args.buffer.now _ s.args.bytes.now s.args.at s.requires.0 c.store.ensures c.store-2.ensures
+    by_array _ _ c.args.buffer.now _ c.args.bytes.now c.args.at c.requires.0 c.store.ensures c.store-2.ensures

@@ -1,5 +1,4 @@
--- `is_renewable`: a way out for each part of the sentence that fails. x, h and e are the places behind the calls of `expiry`, `is_held` and
--- `equal`.
+-- `is_renewable`: a way out for each part of the sentence that fails.
 use Rattle.renewals.proofs.Ways.{another_cookie, never_used, held, by_id}
 use Rattle.renewals.proofs.is_renewable.Goals as goal
 
