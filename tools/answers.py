@@ -3,6 +3,8 @@
 
 usage: answers.py NAMES CRATE..      NAMES/CRATE/names.json is what `rattle check --generated NAMES/CRATE --old-names` wrote
 
+RESPELLED in the environment names a file with what `tools/respell.py --table` printed before it ran, for the fields of this repository's records.
+
 An answer that is no more than `search rules` or `omega arith` is left out, since the check tries these itself. What isn't understood is said on a line.
 """
 
@@ -17,9 +19,6 @@ TRIVIAL = re.compile(r"(search rules|omega arith|\(?search \(rules\)\)?)\s*$")
 
 def plain(name):
     return re.sub(r"-lem$", "", name.replace("_", "-").lower())
-
-
-RENAMED = {"loop-holds": "loop-init", "loop-less": "loop-smaller", "loop-again": "loop-preserved"}
 
 
 def need_name(name):
@@ -100,10 +99,6 @@ class Lts:
         return None
 
 
-def fields_of(word):
-    return [f for f in word.split(".")]
-
-
 TOKEN = re.compile(r"(?:" + NAME + r")(?:\.(?:" + NAME + r"))*|\s+|.", re.S)
 
 
@@ -180,18 +175,6 @@ def turned(text, lts, env):
 FIELDS = {}
 
 
-class Unit:
-    def __init__(self, lines):
-        self.lines = lines
-        text = "\n".join(lines)
-        self.text = text
-        code = [l for l in lines if not l.startswith("--")]
-        self.comment = [l for l in lines if l.startswith("--")]
-        self.code = code
-        m = re.match(r"(?:abbrev )?(?:unfoldable )?(pub )?(" + NAME + r") : ", code[0]) if code else None
-        self.name = m[2] if m else None
-
-
 def units(text):
     """Top level declarations: a run of lines that begins with a signature and goes to the next one."""
     lines = text.split("\n")
@@ -227,9 +210,8 @@ def convert(crate_root, crate, path, of, rel):
     with open(path, encoding="utf-8") as f:
         text = f.read()
     lts = Lts(of)
-    uses, inv, ans, helpers, said = [], [], [], [], []
+    uses, inv, ans, helpers = [], [], [], []
     head_comment = []
-    seen_goals = []
     for u in units(text):
         code = [l for l in u if not l.startswith("--")]
         comment = [l for l in u if l.startswith("--")]
@@ -246,7 +228,6 @@ def convert(crate_root, crate, path, of, rel):
             continue
         if m and m[1] and re.match(r"tie\.(invariant|decreases)-", m[5]):
             kind = "invariant" if "invariant-" in m[5] else "decreases"
-            loop = name.split("-", 1)[1] if "-" in name else name
             which = None
             for (old, new), variables in of["loops"]:
                 if plain(old) == plain(re.sub(r"^(invariant|decreases)-", "", m[5].split(".", 1)[1])):
@@ -322,7 +303,6 @@ def convert(crate_root, crate, path, of, rel):
         helpers.append("\n".join(u))
     folder = os.path.dirname(path)
     mod = rel.replace("/", ".")
-    useless = re.compile(r"use (borrow\.Author\.Rules|Rattle\.\S*\.(Statement|Tie)\b)")
 
     def file(kind, items, local):
         body = "\n\n".join(local + items)
