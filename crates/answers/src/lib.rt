@@ -7,6 +7,7 @@ ghost use Rattle.answers.specs.Applied.{answer_of, coded, replied, relayed, told
 
 // What a call answers, in numbers: that of the check or 0, the bytes in the reply and relay buffers, the connection that the relayed message
 // is for or 255, and 1 where the host has to disconnect the caller.
+// Numbers, and no `bool` or `Option`: `call_answers` is promised for any five (docs/STATEMENTS.md).
 #[derive(Clone, Copy)]
 pub struct Answer {
     pub number: u32,
@@ -20,11 +21,11 @@ fn answer_of(number: u32, reply: u32, relay: u32, destination: u8, disconnect: u
     ensures { result ≡ answer_of number reply relay destination disconnect }
 {
     Answer {
-        number: number,
-        reply: reply,
-        relay: relay,
+        number,
+        reply,
+        relay,
         destination: destination as u32,
-        disconnect: disconnect,
+        disconnect,
     }
 }
 
@@ -68,10 +69,7 @@ pub fn disconnecting(answer: Answer) -> Answer
     ensures { result ≡ answer_of answer.number answer.reply answer.relay answer.destination 1 }
 {
     Answer {
-        number: answer.number,
-        reply: answer.reply,
-        relay: answer.relay,
-        destination: answer.destination,
         disconnect: 1,
+        ..answer
     }
 }

@@ -8,6 +8,8 @@ ghost use Rattle.rules.specs.Calls.{message};
 ghost use Rattle.rules.specs.Charges.{charge};
 ghost use Rattle.refusals.specs.Passed.{Payable};
 
+use allowance_table::Allowances;
+
 // Takes the cost from what the connection's partner has, and sets the clock.
 pub fn pay(allowances: &mut [u8], time: u64, c: u8, cost: u64)
     requires { Payable allowances.old time c cost }
@@ -15,8 +17,8 @@ pub fn pay(allowances: &mut [u8], time: u64, c: u8, cost: u64)
         ≡ set_clock (set_bucket allowances.old (partner_of c) (spend (bucket_of allowances.old
         (partner_of c)) time cost)) time }
 {
-    let partner = c as usize / rules::CONNECTIONS_PER_PARTNER;
-    let level = allowance_table::level(allowances, partner, time);
+    let partner = connection_table::partner_of(c);
+    let level = Allowances::new(allowances).level(partner, time);
     allowance_table::store(allowances, partner, level - cost, time);
     allowance_table::set_clock(allowances, time);
 }

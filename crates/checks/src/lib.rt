@@ -1,12 +1,13 @@
-// Single checks, of which a call has some: what each looks at. They only read. The numbers that refuse a call are those of crates
-// `refusals` and `message_refusal`.
+// Single checks, of which a call has some: what each looks at. They only read. What a call is refused with, crates `refusals` and
+// `message_refusal` say.
 #![tactic(auto)]
 
 ghost use Rattle.std.specs.Prelude.{◌≡◌, ◌||◌, List, ℕ, max, length, ltb};
-ghost use Rattle.rules.specs.Sizes.{allowances_size};
 ghost use Rattle.rules.specs.Tables.{lent, sized, clock};
 ghost use Rattle.rules.specs.Calls.{message};
 ghost use Rattle.rules.specs.Checks.{past_limit, wrong_lengths, permits, needs_session};
+
+use allowance_table::Allowances;
 
 // 1: whether the tables have their sizes.
 pub fn sized(connections: &[u8], leases: &[u8], allowances: &[u8]) -> bool
@@ -18,18 +19,11 @@ pub fn sized(connections: &[u8], leases: &[u8], allowances: &[u8]) -> bool
 }
 
 // 2: whether the time is past the limit or below the latest.
-pub fn is_wrong_time(allowances: &[u8], time: u64) -> bool
-    requires { length allowances.now ≡ allowances_size }
+pub fn is_wrong_time(allowances: &Allowances, time: u64) -> bool
     ensures { result ≡ (past_limit time || ltb time (clock allowances.now)) }
 {
-    let clock = allowance_table::clock(allowances);
+    let clock = allowances.clock();
     (rules::TIME_LIMIT <= time) | (time < clock)
-}
-
-fn larger(a: usize, b: usize) -> usize
-    ensures { result ≡ max a b }
-{
-    if a < b { b } else { a }
 }
 
 // 5, of a message: its random bytes, and both buffers by their lengths.
@@ -37,7 +31,7 @@ pub fn are_wrong_lengths(m: &[u8], random: &[u8], reply_length: usize, relay_len
     ensures { (time c : ℕ) (reply relay : List ℕ) → length reply ≡ reply_length → length relay ≡ relay_length
         → result ≡ wrong_lengths (message time c m.now random.now reply relay) }
 {
-    let least = larger(rules::LEAST_BUFFER, m.len());
+    let least = rules::LEAST_BUFFER.max(m.len());
     (random.len() != rules::RANDOM_BYTES)
         | (reply_length < rules::LEAST_BUFFER)
         | (relay_length < least)

@@ -5,7 +5,7 @@ use Rattle.rules.specs.Sizes.{call_cost}
 use Rattle.rules.specs.Decisions as rules
 use Rattle.rules.specs.Prices.{sent_bytes}
 use Rattle.leases.specs.Leases as leases
-use Rattle.statuses.specs.Decisions.{decided_as}
+use Rattle.statuses.specs.Decisions.{numbered_as}
 use Rattle.decisions.specs.declared.Decision.{Decision}
 use Rattle.decisions.specs.declared.Decision.TheVariants as case
 
@@ -14,7 +14,7 @@ abbrev pub meaning : Decision → List ℕ → List ℕ → rules.Decision
 meaning (case.AnswerVersion ok) m random = rules.version_answered ok
 meaning (case.Lease d) m random = rules.lease_decided (leases.meaning d random)
 meaning (case.Extend row) m random = rules.extension_decided row
-meaning (case.Establish id d) m random = rules.session_decided id (decided_as d)
+meaning (case.Establish id d) m random = rules.session_decided id (numbered_as d)
 meaning (case.EndSession other) m random = rules.session_ended other
 meaning (case.SendData other) m random = rules.data_sent other (drop 1 m)
 meaning case.Nothing m random = rules.nothing_asked

@@ -5,26 +5,28 @@
 
 ghost use Rattle.std.specs.Prelude.{◌≡◌, List, ℕ, ◌≤◌, ◌<◌, length, if◌then◌else◌};
 ghost use Rattle.svsc.specs.Messages.{longest_message, decode};
-ghost use Rattle.rules.specs.Sizes.{connection_count, leases_size, random_bytes};
+ghost use Rattle.rules.specs.Sizes.{connection_count, random_bytes};
 ghost use Rattle.rules.specs.Effects.{is_accepted};
 ghost use Rattle.rules.specs.Decisions.{decide_message, extension_decided, session_decided};
 ghost use Rattle.rules.specs.Prices.{sent_bytes};
 ghost use Rattle.leases.specs.Leases.{meaning as leaseMeaning};
-ghost use Rattle.statuses.specs.Decisions.{decided_as};
+ghost use Rattle.statuses.specs.Decisions.{numbered_as};
 ghost use Rattle.decisions.specs.Decided.{meaning, naming, price_of};
 
-use leases::LeaseDecision;
-use statuses::EstablishDecision;
+use lease_table::Leases;
+use leases::{LeaseGrant, LeaseRefusal};
+use statuses::Status;
 use svsc_decoded::Decoded;
 
 // The version answer; what was decided on a lease; the row to extend, or the end of the partner's rows; the id asked for and what was
 // decided on a session with its holder; the other connection of the session that ends, or that the data goes to; or nothing.
+// The status is a number, not a `Status`: `price` is promised for any (docs/STATEMENTS.md).
 #[derive(Clone, Copy)]
 pub enum Decision {
     AnswerVersion(u8),
-    Lease(LeaseDecision),
+    Lease(Result<LeaseGrant, LeaseRefusal>),
     Extend(usize),
-    Establish(u32, EstablishDecision),
+    Establish(u32, Result<u8, u8>),
     EndSession(u8),
     SendData(u8),
     Nothing,
@@ -47,19 +49,21 @@ const SESSION_END: u64 = 1;
 // not looked up again.
 pub fn decide(
     connections: &[u8],
-    leases: &[u8],
+    leases: &Leases,
     time: u64,
     c: u8,
     other: u8,
     m: &[u8],
     random: &[u8],
 ) -> Decision
-    requires { (length leases.now ≡ leases_size) × (c < connection_count) × (length random.now ≡ random_bytes) }
+    requires { (c < connection_count) × (length random.now ≡ random_bytes) }
     ensures { meaning result m.now random.now
         ≡ naming other (decide_message connections.now leases.now time c random.now
         (decode m.now)) }
 {
-    let d = svsc_reader::read(m);
+    let Some(d) = svsc_reader::read(m) else {
+        return Decision::Nothing;
+    };
     match d {
         Decoded::VersionAnswer { ok } => Decision::AnswerVersion(ok),
         Decoded::LeaseRequest | Decoded::LeaseRequestWithCookie => {
@@ -69,11 +73,12 @@ pub fn decide(
         }
         Decoded::ExtensionRequest => {
             let cookie = octets::part(m, 1, svsc::COOKIE);
-            Decision::Extend(lease_search::row_to_extend(leases, time, c, cookie))
+            let row = lease_search::row_to_extend(leases, time, c, cookie);
+            Decision::Extend(row.unwrap_or(lease_table::end_row(lease_table::partner_of(c))))
         }
         Decoded::EstablishRequest { id } => {
             let session = statuses::decide(connections, leases, time, c, id);
-            Decision::Establish(id, session)
+            Decision::Establish(id, session.map_err(Status::number))
         }
         Decoded::SessionEnd => Decision::EndSession(other),
         Decoded::DataSend => Decision::SendData(other),
@@ -81,16 +86,12 @@ pub fn decide(
     }
 }
 
-fn lease_bytes(lease: LeaseDecision) -> u64
+fn lease_bytes(lease: Result<LeaseGrant, LeaseRefusal>) -> u64
     ensures { (random : List ℕ) → result ≡ (if is_accepted (leaseMeaning lease random) then 38 else 2) }
 {
     match lease {
-        LeaseDecision::HoldsLease => REFUSAL,
-        LeaseDecision::NoSpareRow => REFUSAL,
-        LeaseDecision::CookieInUse => REFUSAL,
-        LeaseDecision::NoFreeId => REFUSAL,
-        LeaseDecision::Renewed { row } => LEASE,
-        LeaseDecision::Granted { row, id } => LEASE,
+        Ok(grant) => LEASE,
+        Err(refusal) => REFUSAL,
     }
 }
 
@@ -104,12 +105,12 @@ fn extension_bytes(c: u8, row: usize) -> u64
     REFUSAL
 }
 
-fn session_bytes(session: EstablishDecision) -> u64
-    ensures { (c id : ℕ) → result ≡ sent_bytes c (session_decided id (decided_as session)) }
+fn session_bytes(session: Result<u8, u8>) -> u64
+    ensures { (c id : ℕ) → result ≡ sent_bytes c (session_decided id (numbered_as session)) }
 {
     match session {
-        EstablishDecision::RefusedWith(status) => STATUS,
-        EstablishDecision::EstablishedWith(holder) => SESSION,
+        Ok(holder) => SESSION,
+        Err(status) => STATUS,
     }
 }
 

@@ -7,13 +7,9 @@ use Rattle.rules.specs.Plans.{plan_decided}
 use Rattle.answers.specs.Applied.{Handled, applied}
 use Rattle.decisions.specs.declared.Decision.{Decision}
 use Rattle.decisions.specs.Decided.{meaning}
-use Rattle.dispatch.specs.Asked.{Feasible}
 
 -- x is the decision with the values that the match names
 module _ (random m : List ℕ) (d : Decision) {x : Decision} (e : d ≡ x) where
-  pub feasible_in : Feasible (meaning d m random) → Feasible (meaning x m random)
-  feasible_in h = rw e at h
-
   pub as_decided : (tables : Tables) (time c : ℕ) (reply relay : List ℕ) {o : Handled}
       → o ≡ applied (plan_decided tables time c random (meaning x m random)) reply relay
       → o ≡ applied (plan_decided tables time c random (meaning d m random)) reply relay

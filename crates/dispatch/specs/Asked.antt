@@ -1,14 +1,13 @@
 -- What the work of a message may go by; the checks have shown it.
 use Rattle.std.specs.Prelude.{ℕ, ◌≤◌, ◌<◌, ◌≡◌, List, length}
 use Rattle.svsc.specs.Messages.{longest_message}
-use Rattle.rules.specs.Sizes.{connection_count, leases_size, allowances_size, least_buffer, time_limit, random_bytes}
+use Rattle.rules.specs.Sizes.{connection_count, leases_size, least_buffer, time_limit, random_bytes}
 use Rattle.rules.specs.Decisions.{Decision, version_answered, lease_decided, extension_decided, session_decided, session_ended, data_sent, nothing_asked}
 use Rattle.leasing.specs.Asked.{InRows}
 use Rattle.establishing.specs.Asked.{InStatuses}
 
-pub record Admitted (ls al : List ℕ) (time c : ℕ) (m random reply relay : List ℕ) : Type 0 where
+pub record Admitted (ls : List ℕ) (time c : ℕ) (m random reply relay : List ℕ) : Type 0 where
   pub size : length ls ≡ leases_size
-  pub allowances : length al ≡ allowances_size
   pub known : c < connection_count
   pub timely : time < time_limit
   pub random_size : length random ≡ random_bytes

@@ -9,6 +9,7 @@ ghost use Rattle.answers.specs.Applied.{handled, applied};
 ghost use Rattle.decisions.specs.Decided.{meaning};
 ghost use Rattle.dispatch.specs.Asked.{Admitted, Feasible};
 
+use allowance_table::Allowances;
 use answers::Answer;
 use decisions::Decision;
 
@@ -16,7 +17,7 @@ use decisions::Decision;
 pub fn handle(
     connections: &mut [u8],
     leases: &mut [u8],
-    allowances: &[u8],
+    allowances: &Allowances,
     time: u64,
     c: u8,
     decision: Decision,
@@ -25,7 +26,7 @@ pub fn handle(
     reply: &mut [u8],
     relay: &mut [u8],
 ) -> Answer
-    requires { (Admitted leases.old allowances.now time c m.now random.now reply.old relay.old)
+    requires { (Admitted leases.old time c m.now random.now reply.old relay.old)
         × (Feasible (meaning decision m.now random.now)) }
     ensures { handled result connections.new leases.new reply.new relay.new
         ≡ applied (plan_decided (lent connections.old leases.old allowances.now) time c

@@ -1,6 +1,6 @@
 -- The ways out of the functions that establish sessions, over plain values. Assumes nothing.
 use Prim.Native.Nat.{ℕ, ◌+◌, ◌^◌, ◌≤◌, ◌<◌}
-use mathlib.Core.Path.{◌≡◌, ◌∙◌}
+use mathlib.Core.Path.{◌≡◌}
 use mathlib.Core.Bool.{true}
 use mathlib.Core.List.{List}
 use native.Mathlib.Omega.{arith}
@@ -9,18 +9,17 @@ use borrow.Author.Tests.{lt-ltb, le-leb}
 use Rattle.octets.specs.Octets.{part, put, is_bytes}
 use Rattle.octets.proofs.Numbers.{length-big_endian}
 use Rattle.svsc.specs.Messages.{Message, establish_refused, established, establish_notification, encode, well_formed}
-use Rattle.svsc.specs.Writing.{WriteOutcome, write}
+use Rattle.std.specs.Prelude.{Result, Ok, IsOk}
+use Rattle.svsc.specs.Writing.{write, written, as_written}
+use Rattle.svsc.specs.declared.Refused.{Refused}
 use Rattle.rules.specs.Sizes.{random_bytes, least_buffer}
 use Rattle.rules.specs.Tables.{lent}
 use Rattle.rules.specs.Sessions.{refused_with, established_with, establish, random_session_id, callers_peer_id, callers_key, holders_peer_id, holders_key}
 use Rattle.rules.specs.Plans.{plan_establish}
 use Rattle.answers.specs.declared.Answer.{Answer}
 use Rattle.answers.specs.Applied.{Handled, handled, applied, coded, replied, told_both}
-use Rattle.statuses.specs.Decisions.{decided_as}
-use Rattle.statuses.specs.declared.EstablishDecision.{EstablishDecision}
-use Rattle.statuses.specs.declared.EstablishDecision.TheVariants as decision
-use Rattle.establishing.specs.Asked.{Wrote, InStatuses}
-use Rattle.answers.proofs.Writes.{part_bytes, sized-length, sent-length, sent-buffer}
+use Rattle.establishing.specs.Asked.{Wrote}
+use Rattle.answers.proofs.Writes.{part_bytes, sized-length, sent_ok, sent-length, sent-buffer}
 
 -- ---- ranges and lengths
 
@@ -51,33 +50,42 @@ module _ (session peer key : List ℕ) (hs : is_bytes 16 session ≡ true) (hp :
 
 -- ---- the pairs, told to their owners
 
--- a message of three parts of the random bytes, in a buffer of the least size
+-- a message was written, which a buffer of the least size has room for
+pub record PairTold (m : Message) (buffer : List ℕ) (r : Result ℕ Refused) (after : List ℕ) : Type 0 where
+  pub ok : IsOk r
+  pub told : (n : ℕ) → r ≡ Ok n → Wrote (encode m) n buffer after
+
+-- a message of three parts of the random bytes
 module _ (form : List ℕ → List ℕ → List ℕ → Message)
     (ranges : (s p k : List ℕ) → is_bytes 16 s ≡ true → is_bytes 16 p ≡ true → is_bytes 16 k ≡ true → well_formed (form s p k) ≡ true) (n : ℕ)
     (sizes : (s p k : List ℕ) → is_bytes 16 s ≡ true → is_bytes 16 p ≡ true → is_bytes 16 k ≡ true → length (encode (form s p k)) ≡ n) (small : n ≤ least_buffer) where
   pair_told : (random buffer : List ℕ) → ((i : ℕ) → get_or random i 0 < 256) → length random ≡ random_bytes → least_buffer ≤ length buffer
       → (at : ℕ) → at + 32 ≤ random_bytes → (s p k : List ℕ) → s ≡ part random 0 16 → p ≡ part random at 16 → k ≡ part random (at + 16) 16
-      → (o : WriteOutcome) → o ≡ write (form s p k) buffer
-      → Wrote (encode (form (part random 0 16) (part random at 16) (part random (at + 16) 16))) o.length buffer o.buffer
-  pair_told random buffer bytes size room at h s p k es ep ek o e =
+      → (r : Result ℕ Refused) (after : List ℕ) → written (as_written r) after ≡ write (form s p k) buffer
+      → PairTold (form (part random 0 16) (part random at 16) (part random (at + 16) 16)) buffer r after
+  pair_told random buffer bytes size room at h s p k es ep ek r after e =
       let hs : is_bytes 16 s ≡ true = rw es (part_bytes random 0 16 bytes (omega arith)) in
       let hp : is_bytes 16 p ≡ true = rw ep (part_bytes random at 16 bytes (omega arith)) in
       let hk : is_bytes 16 k ≡ true = rw ek (part_bytes random (at + 16) 16 bytes (omega arith)) in
       let whole = sizes s p k hs hp hk in
       let fits : length (encode (form s p k)) ≤ length buffer = omega arith in
-      let count = sent-length (form s p k) buffer o e (ranges s p k hs hp hk) fits in
-      rw (← es, ← ep, ← ek) (record { count = count; stored = sent-buffer (form s p k) buffer o e (ranges s p k hs hp hk) fits })
+      let count = sent-length (form s p k) buffer r after e (ranges s p k hs hp hk) fits in
+      rw (← es, ← ep, ← ek)
+      (record {
+        ok = sent_ok (form s p k) buffer r after e (ranges s p k hs hp hk) fits;
+        told = λ n h. record { count = count n h; stored = sent-buffer (form s p k) buffer r after e (ranges s p k hs hp hk) fits };
+      })
 
-module _ (random buffer : List ℕ) (bytes : (i : ℕ) → get_or random i 0 < 256) (size : length random ≡ random_bytes) (room : least_buffer ≤ length buffer) (s p k : List ℕ) (es : s ≡ random_session_id random) (o : WriteOutcome) where
-  pub caller_told : (id : ℕ) → id < 2 ^ 32 → p ≡ callers_peer_id random → k ≡ callers_key random → o ≡ write (established id s p k) buffer
-      → Wrote (encode (established id (random_session_id random) (callers_peer_id random) (callers_key random))) o.length buffer o.buffer
+module _ (random buffer : List ℕ) (bytes : (i : ℕ) → get_or random i 0 < 256) (size : length random ≡ random_bytes) (room : least_buffer ≤ length buffer) (s p k : List ℕ) (es : s ≡ random_session_id random) (r : Result ℕ Refused) (after : List ℕ) where
+  pub caller_told : (id : ℕ) → id < 2 ^ 32 → p ≡ callers_peer_id random → k ≡ callers_key random → written (as_written r) after ≡ write (established id s p k) buffer
+      → PairTold (established id (random_session_id random) (callers_peer_id random) (callers_key random)) buffer r after
   caller_told id hi ep ek e =
-      pair_told (established id) (λ s p k hs hp hk. established_ranges s p k hs hp hk id hi) 54 (λ s p k hs hp hk. established_length s p k hs hp hk id) (omega arith) random buffer bytes size room 16 (omega arith) s p k es ep ek o e
+      pair_told (established id) (λ s p k hs hp hk. established_ranges s p k hs hp hk id hi) 54 (λ s p k hs hp hk. established_length s p k hs hp hk id) (omega arith) random buffer bytes size room 16 (omega arith) s p k es ep ek r after e
 
-  pub holder-told : p ≡ holders_peer_id random → k ≡ holders_key random → o ≡ write (establish_notification s p k) buffer
-      → Wrote (encode (establish_notification (random_session_id random) (holders_peer_id random) (holders_key random))) o.length buffer o.buffer
+  pub holder-told : p ≡ holders_peer_id random → k ≡ holders_key random → written (as_written r) after ≡ write (establish_notification s p k) buffer
+      → PairTold (establish_notification (random_session_id random) (holders_peer_id random) (holders_key random)) buffer r after
   holder-told ep ek e =
-      pair_told establish_notification notification_ranges 49 notification_length (omega arith) random buffer bytes size room 48 (omega arith) s p k es ep ek o e
+      pair_told establish_notification notification_ranges 49 notification_length (omega arith) random buffer bytes size room 48 (omega arith) s p k es ep ek r after e
 
 -- ---- the ways out
 
@@ -94,13 +102,3 @@ module _ (cs ls al reply relay : List ℕ) (c id : ℕ) (random : List ℕ) wher
       → handled r cs' ls reply' relay' ≡ applied (plan_establish (lent cs ls al) c id random (established_with h)) reply relay
   unfolding applied plan_establish
   session_made h n k cs' reply' relay' r e w v a = rw (a, e, w.stored, w.count, v.stored, v.count)
-
--- the status of a decision that refuses
-pub status_in : (d : EstablishDecision) {status : ℕ} → d ≡ decision.RefusedWith status → InStatuses (decided_as d) → (1 ≤ status) × (status ≤ 5)
-status_in d e h = rw e at h
-
--- the outcome of what was decided: x with the values that the match names
-pub as_decided : (cs ls al reply relay : List ℕ) (c id : ℕ) (random : List ℕ) (d : EstablishDecision) {x : EstablishDecision} {o : Handled} → d ≡ x
-    → o ≡ applied (plan_establish (lent cs ls al) c id random (decided_as x)) reply relay
-    → o ≡ applied (plan_establish (lent cs ls al) c id random (decided_as d)) reply relay
-as_decided cs ls al reply relay c id random d e h = h ∙ rw (← e)

@@ -10,19 +10,18 @@ ghost use Rattle.rules.specs.Sessions.{refused_with, established_with};
 ghost use Rattle.rules.specs.Sessions.{random_session_id, callers_peer_id, callers_key, holders_peer_id, holders_key};
 ghost use Rattle.rules.specs.Plans.{plan_establish};
 ghost use Rattle.answers.specs.Applied.{handled, applied};
-ghost use Rattle.statuses.specs.Decisions.{decided_as};
+ghost use Rattle.statuses.specs.Decisions.{numbered_as};
 ghost use Rattle.establishing.specs.Asked.{Wrote, Joinable, InStatuses};
 
 use answers::Answer;
-use statuses::EstablishDecision;
 
 fn refuse(reply: &mut [u8], id: u32, status: u8) -> Answer
     requires { (1 ≤ status) × (status ≤ 5) × (least_buffer ≤ length reply.old) }
     ensures { (cs ls al random relay : List ℕ) (c : ℕ) → handled result cs ls reply.new relay
         ≡ applied (plan_establish (lent cs ls al) c id random (refused_with status)) reply.old relay }
 {
-    let sent = svsc_session_writers::svsc_write_establish_refused(reply, id, status);
-    answers::replied(sent.length as u32)
+    let sent = svsc_session_writers::svsc_write_establish_refused(reply, id, status).unwrap();
+    answers::replied(sent as u32)
 }
 
 // The caller is told its own pair.
@@ -36,7 +35,7 @@ fn tell_caller(reply: &mut [u8], id: u32, random: &[u8]) -> u32
     let peer = octets::part(random, 16, svsc::KEY);
     let key = octets::part(random, 32, svsc::KEY);
     let sent = svsc_session_writers::svsc_write_established(reply, id, session, peer, key);
-    sent.length as u32
+    sent.unwrap() as u32
 }
 
 // The holder is told its own pair.
@@ -49,7 +48,7 @@ fn tell_holder(relay: &mut [u8], random: &[u8]) -> u32
     let peer = octets::part(random, 48, svsc::KEY);
     let key = octets::part(random, 64, svsc::KEY);
     let sent = svsc_session_writers::svsc_write_establish_notification(relay, session, peer, key);
-    sent.length as u32
+    sent.unwrap() as u32
 }
 
 // Both records, the reply to the caller and the notification to the holder.
@@ -78,26 +77,18 @@ pub fn establish(
     connections: &mut [u8],
     c: u8,
     id: u32,
-    decision: EstablishDecision,
+    decision: Result<u8, u8>,
     random: &[u8],
     reply: &mut [u8],
     relay: &mut [u8],
 ) -> Answer
-    requires { (Joinable random.now reply.old relay.old) × (InStatuses (decided_as decision)) }
+    requires { (Joinable random.now reply.old relay.old) × (InStatuses (numbered_as decision)) }
     ensures { (ls al : List ℕ) → handled result connections.new ls reply.new relay.new
-        ≡ applied (plan_establish (lent connections.old ls al) c id random.now (decided_as decision))
+        ≡ applied (plan_establish (lent connections.old ls al) c id random.now (numbered_as decision))
         reply.old relay.old }
 {
     match decision {
-        EstablishDecision::RefusedWith(status) => refuse(reply, id, status),
-        EstablishDecision::EstablishedWith(holder) => join(
-            connections,
-            c,
-            holder,
-            id,
-            random,
-            reply,
-            relay,
-        ),
+        Ok(holder) => join(connections, c, holder, id, random, reply, relay),
+        Err(status) => refuse(reply, id, status),
     }
 }

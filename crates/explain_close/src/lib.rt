@@ -7,7 +7,7 @@ ghost use Rattle.rules.specs.Calls.{closing};
 ghost use Rattle.rules.specs.Reasons.{explain};
 ghost use Rattle.reasons.specs.Coded.{coded};
 
-use reasons::Reason;
+use reasons::{Named, Reason};
 
 #[unsafe(no_mangle)]
 pub extern "C" fn crondelith_explain_close(
@@ -22,7 +22,7 @@ pub extern "C" fn crondelith_explain_close(
         → result ≡ coded (explain (lent connections.now leases.now allowances.now)
         (closing time connection relay)) }
 {
-    let check = refusals::close::refusal(
+    let checked = refusals::close::check(
         connections,
         leases,
         allowances,
@@ -30,5 +30,6 @@ pub extern "C" fn crondelith_explain_close(
         connection,
         relay_length as usize,
     );
-    reasons::without_headroom(check, reasons::nothing_named())
+    let check = refusal_numbers::answer_number(checked);
+    reasons::without_headroom(check, Named::Nothing)
 }

@@ -7,7 +7,7 @@ ghost use Rattle.rules.specs.Calls.{keepalive};
 ghost use Rattle.rules.specs.Reasons.{explain};
 ghost use Rattle.reasons.specs.Coded.{coded};
 
-use reasons::Reason;
+use reasons::{Named, Reason};
 
 #[unsafe(no_mangle)]
 pub extern "C" fn crondelith_explain_keepalive(
@@ -23,7 +23,7 @@ pub extern "C" fn crondelith_explain_keepalive(
         → result ≡ coded (explain (lent connections.now leases.now allowances.now)
         (keepalive time connection reply relay)) }
 {
-    let check = refusals::keepalive::refusal(
+    let checked = refusals::keepalive::check(
         connections,
         leases,
         allowances,
@@ -32,5 +32,6 @@ pub extern "C" fn crondelith_explain_keepalive(
         reply_length as usize,
         relay_length as usize,
     );
-    reasons::without_headroom(check, reasons::nothing_named())
+    let check = refusal_numbers::answer_number(checked);
+    reasons::without_headroom(check, Named::Nothing)
 }

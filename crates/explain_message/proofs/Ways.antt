@@ -1,11 +1,9 @@
 -- What decided a message, what it costs, and what its checks have shown, over plain values. Assumes nothing.
-use Rattle.std.specs.Prelude.{if◌then◌else◌}
+use Rattle.std.specs.Prelude.{if◌then◌else◌, Ok}
 use Prim.Native.Nat.{ℕ, ◌≤◌, ◌<◌}
-use mathlib.Core.Path.{◌≡◌, refl, ◌∙◌}
+use mathlib.Core.Path.{◌≡◌, refl, sym, ◌∙◌}
 use mathlib.Core.Bool.{true, false}
-use mathlib.Core.List.{List, [], ◌∷◌}
-use types.Run.{OneOf, miss}
-use denote.Enum.Declared.{tag_of}
+use mathlib.Core.List.{List}
 use native.Mathlib.Decide.{ℕ_discrete}
 use lib.Dec.{eqb}
 use lib.ListN.{length, replicate, length-replicate}
@@ -25,31 +23,14 @@ use Rattle.rules.proofs.Plans.{every_decision, lease-decision}
 use Rattle.rules.proofs.Prices.{prices}
 use Rattle.checks.proofs.MessageChecks.{ends}
 use Rattle.decisions.specs.Decided.{meaning}
-use Rattle.decisions.specs.declared.Decision.{Decision as Code}
-use Rattle.decisions.specs.declared.Decision.TheVariants as case
-use Rattle.decisions.specs.contracts.Decision.{the_type}
 use Rattle.message_refusal.specs.declared.Assessment.{Assessment}
 use Rattle.message_refusal.specs.Assessed.{assessed_as, assessed}
-use Rattle.message_refusal.proofs.MessageStops.{assessed-number, assessed-price, assessed-decision}
+use Rattle.message_refusal.proofs.MessageStops.{assessed-price, assessed-decision}
 use Rattle.reasons.specs.declared.Named.{Named}
 use Rattle.reasons.specs.Coded.{named}
-use Rattle.reasons.proofs.Ways.{stops, first-eight_passed}
 use Rattle.explain_message.specs.Naming.{decided_by}
 
 -- ---- what decided a message
-
--- the cases that are no decision on a lease or on a session
-abbrev pub others : List ℕ
-others = 0 ∷ 2 ∷ 4 ∷ 5 ∷ 6 ∷ []
-
-pub none_named : (d : Code) (m random : List ℕ) → OneOf others (tag_of the_type d) → undecided ≡ decided_by (meaning d m random)
-none_named (case.AnswerVersion ok) m random h = refl
-none_named (case.Lease d) m random h = absurd (miss others 1 tt h)
-none_named (case.Extend row) m random h = refl
-none_named (case.Establish id d) m random h = absurd (miss others 3 tt h)
-none_named (case.EndSession other) m random h = refl
-none_named (case.SendData other) m random h = refl
-none_named case.Nothing m random h = refl
 
 module _ (tables : Tables) (time c : ℕ) (m random reply relay : List ℕ) (h : precheck tables (message time c m random reply relay) ≡ 0) where
   abbrev sent : Call
@@ -107,12 +88,12 @@ module _ (time c : ℕ) (m random reply relay : List ℕ) (k : ℕ) (hk : k ≡ 
 
 module _
     (tables : Tables) (time c : ℕ) (m random reply relay : List ℕ) (f : Assessment)
-    (all : assessed_as f m random ≡ assessed tables time c m random reply relay)
+    (eight : 0 ≡ precheck tables (message time c m random reply relay))
+    (all : assessed_as (Ok f) m random ≡ assessed tables time c m random reply relay)
   where
-    pub decided-is : precheck tables (message time c m random reply relay) ≡ 0 → (x : Named)
-        → x ≡ named (if eqb f.number 0 then decided_by (meaning f.decision m random) else undecided)
-        → x ≡ named (if eqb f.number 0 then asked tables (message time c m random reply relay) else undecided)
-    decided-is h x e = e ∙ rw (assessed-decision tables time c m random reply relay f all h, asked_is tables time c m random reply relay h)
+    pub decided-is : (k : ℕ) (x : Named) → x ≡ named (if eqb k 0 then decided_by (meaning f.decision m random) else undecided)
+        → x ≡ named (if eqb k 0 then asked tables (message time c m random reply relay) else undecided)
+    decided-is k x e = e ∙ rw (assessed-decision tables time c m random reply relay f eight all, asked_is tables time c m random reply relay (sym eight))
 
 -- what is known where none of the first eight stops it, whatever its buffers of such lengths hold
 pub record Known (tables : Tables) (c : ℕ) (f : Assessment) : Type 0 where
@@ -121,18 +102,17 @@ pub record Known (tables : Tables) (c : ℕ) (f : Assessment) : Type 0 where
   pub price_most : f.price ≤ greatest_price
 
 pub message_passed : (tables : Tables) (time c : ℕ) (m random : List ℕ) (n l : ℕ) (f : Assessment)
-    → ((reply relay : List ℕ) → length reply ≡ n → length relay ≡ l → assessed_as f m random ≡ assessed tables time c m random reply relay)
-    → stops f.number ≡ false
+    → ((reply relay : List ℕ) → length reply ≡ n → length relay ≡ l → 0 ≡ precheck tables (message time c m random reply relay))
+    → ((reply relay : List ℕ) → length reply ≡ n → length relay ≡ l → assessed_as (Ok f) m random ≡ assessed tables time c m random reply relay)
     → Known tables c f
-message_passed tables time c m random n l f e s =
+message_passed tables time c m random n l f eight all =
     let reply : List ℕ = replicate n 0 in
     let relay : List ℕ = replicate l 0 in
     let call = message time c m random reply relay in
-    let all = e reply relay (length-replicate n 0) (length-replicate l 0) in
-    let h = first-eight_passed tables call f.number (assessed-number tables time c m random reply relay f all) s in
-    let ok = passed tables call h in
+    let z = eight reply relay (length-replicate n 0) (length-replicate l 0) in
+    let ok = passed tables call (sym z) in
     record {
       connection = ok.known;
       allowances = ok.allowances;
-      price_most = rw (assessed-price tables time c m random reply relay f all h) ((prices tables).most call h);
+      price_most = rw (assessed-price tables time c m random reply relay f z (all reply relay (length-replicate n 0) (length-replicate l 0))) ((prices tables).most call (sym z));
     }

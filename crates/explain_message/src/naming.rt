@@ -1,37 +1,33 @@
-// What decided a message, as numbers.
+// What decided a message.
 ghost use Rattle.std.specs.Prelude.{◌≡◌, List, ℕ, eqb, if◌then◌else◌};
 ghost use Rattle.rules.specs.Reasons.{condition_of, status_of, undecided};
 ghost use Rattle.leases.specs.Leases.{meaning as leaseMeaning};
-ghost use Rattle.statuses.specs.Decisions.{decided_as};
+ghost use Rattle.statuses.specs.Decisions.{numbered_as};
 ghost use Rattle.reasons.specs.Coded.{named};
 ghost use Rattle.decisions.specs.Decided.{meaning};
 ghost use Rattle.explain_message.specs.Naming.{decided_by};
 
 use decisions::Decision;
-use leases::LeaseDecision;
+use leases::{LeaseGrant, LeaseRefusal};
 use reasons::Named;
-use statuses::EstablishDecision;
 
 // The number of the first condition that fails, in 01's order; 0 if all hold.
-fn condition_of(decision: LeaseDecision) -> u32
+fn condition_of(decision: Result<LeaseGrant, LeaseRefusal>) -> u32
     ensures { (random : List ℕ) → result ≡ condition_of (leaseMeaning decision random) }
 {
     match decision {
-        LeaseDecision::HoldsLease => 1,
-        LeaseDecision::NoSpareRow => 2,
-        LeaseDecision::CookieInUse => 3,
-        LeaseDecision::NoFreeId => 4,
-        LeaseDecision::Renewed { row } => 0,
-        LeaseDecision::Granted { row, id } => 0,
+        Ok(grant) => 0,
+        Err(refusal) => refusal.number(),
     }
 }
 
-fn status_of(decision: EstablishDecision) -> u32
-    ensures { result ≡ status_of (decided_as decision) }
+// The number of the status that refuses; 0 if none does.
+fn status_of(decision: Result<u8, u8>) -> u32
+    ensures { result ≡ status_of (numbered_as decision) }
 {
     match decision {
-        EstablishDecision::RefusedWith(status) => status as u32,
-        EstablishDecision::EstablishedWith(holder) => 0,
+        Ok(holder) => 0,
+        Err(status) => u32::from(status),
     }
 }
 
@@ -40,15 +36,13 @@ fn named(decision: Decision) -> Named
     ensures { (m random : List ℕ) → result ≡ named (decided_by (meaning decision m random)) }
 {
     match decision {
-        Decision::Lease(lease) => Named {
-            request: reasons::LEASE,
+        Decision::Lease(lease) => Named::Lease {
             condition: condition_of(lease),
         },
-        Decision::Establish(id, session) => Named {
-            request: reasons::ESTABLISH,
-            condition: status_of(session),
+        Decision::Establish(id, session) => Named::Session {
+            status: status_of(session),
         },
-        _ => reasons::nothing_named(),
+        _ => Named::Nothing,
     }
 }
 
@@ -58,7 +52,7 @@ pub fn decided(number: u32, decision: Decision) -> Named
         → result ≡ named (if eqb number 0 then decided_by (meaning decision m random) else undecided) }
 {
     if number != 0 {
-        return reasons::nothing_named();
+        return Named::Nothing;
     }
     named(decision)
 }

@@ -7,7 +7,8 @@ ghost use Rattle.rules.specs.Calls.{opening};
 ghost use Rattle.rules.specs.Reasons.{explain};
 ghost use Rattle.reasons.specs.Coded.{coded};
 
-use reasons::Reason;
+use allowance_table::Allowances;
+use reasons::{Named, Reason};
 
 #[unsafe(no_mangle)]
 pub extern "C" fn crondelith_explain_open(
@@ -22,7 +23,7 @@ pub extern "C" fn crondelith_explain_open(
         → result ≡ coded (explain (lent connections.now leases.now allowances.now)
         (opening time connection reply)) }
 {
-    let check = refusals::open::refusal(
+    let checked = refusals::open::first_eight(
         connections,
         leases,
         allowances,
@@ -30,11 +31,14 @@ pub extern "C" fn crondelith_explain_open(
         connection,
         reply_length as usize,
     );
-    let nothing = reasons::nothing_named();
-    if reasons::is_stopped(check) {
-        return reasons::without_headroom(check, nothing);
+    match checked {
+        Err(refusal) => reasons::without_headroom(refusal.number(), Named::Nothing),
+        Ok(c) => {
+            let allowances = Allowances::new(allowances);
+            let last = refusals::last(&allowances, time, c, rules::OPEN_COST);
+            let check = refusal_numbers::answer_number(last);
+            let level = allowances.level(lease_table::partner_of(c), time);
+            reasons::with_headroom(check, Named::Nothing, level, rules::OPEN_COST)
+        }
     }
-    let partner = lease_table::partner_of(connection as u8);
-    let level = allowance_table::level(allowances, partner, time);
-    reasons::with_headroom(check, nothing, level, rules::OPEN_COST)
 }

@@ -1,135 +1,126 @@
 // A reader's state, and what is missing of a frame's header, read from a chunk.
 #![tactic(auto)]
 
-ghost use Rattle.std.specs.Prelude.{◌≡◌, ◌<◌};
+ghost use Rattle.std.specs.Prelude.{◌≡◌, ◌<◌, ◌≤◌};
 ghost use Rattle.framing.specs.Reading.{state, is_valid};
-ghost use Rattle.frame_headers.specs.Headers.{read_type, read_low, read_high, read_header};
+ghost use Rattle.frame_headers.specs.Headers.{reached, behind, used, read_type, read_low, read_high, read_header};
 
-// The state once the chunk's bytes of a header are taken, and how many these are; or the header is refused.
+// How many bytes of a frame were taken, and its length as far as that is known.
 #[derive(Clone, Copy)]
-pub struct Header {
-    pub refused: bool,
-    pub used: usize,
+pub struct State {
     pub taken: u32,
     pub size: u32,
 }
 
-// Whether the state is fresh or made by a step.
-pub fn is_valid(taken: u32, size: u32) -> bool
-    ensures { result ≡ is_valid (state taken size) }
-{
-    if taken == 0 {
-        return size == 0;
+// How many bytes of a chunk are taken as a header's, and the state behind them.
+#[derive(Clone, Copy)]
+pub struct Header {
+    pub used: usize,
+    pub state: State,
+}
+
+// A length of 0 or another type: how many bytes of the chunk are taken, with the one that shows it.
+#[derive(Clone, Copy)]
+pub struct BadHeader {
+    pub used: usize,
+}
+
+impl State {
+    // Whether the state is fresh or made by a step.
+    #[tactic(auto, unfolding(framing::specs::Reading::is_valid))]
+    pub fn is_valid(self) -> bool
+        ensures { result ≡ is_valid (state self.taken self.size) }
+    {
+        if self.taken == 0 {
+            return self.size == 0;
+        }
+        if 65536 <= self.size {
+            return false;
+        }
+        if self.taken == 1 {
+            return self.size % 256 == 0;
+        }
+        self.size != 0 && self.taken < self.size + 2
     }
-    if 65536 <= size {
-        return false;
+
+    // What is missing of the header. Its caller knows that the state is valid.
+    #[tactic(auto, unfolding(crate::specs::Headers::read_header))]
+    pub fn read_header(self, chunk: &[u8]) -> Result<Header, BadHeader>
+        requires { self.size < 65536 }
+        ensures { result ≡ read_header self.taken self.size chunk.now }
+    {
+        match self.taken {
+            0 => read_high(chunk),
+            1 => read_low(self.size, chunk),
+            2 => read_type(self.size, chunk),
+            _ => so_far(0, self.taken, self.size),
+        }
     }
-    if taken == 1 {
-        return size % 256 == 0;
-    }
-    size != 0 && taken < size + 2
 }
 
 // ---- the header, byte by byte
 
+// So many bytes are taken, and this is the state.
+fn so_far(used: usize, taken: u32, size: u32) -> Result<Header, BadHeader>
+    ensures { result ≡ reached used taken size }
+{
+    Ok(Header {
+        used,
+        state: State { taken, size },
+    })
+}
+
+// The same a byte later.
+fn behind(read: Result<Header, BadHeader>) -> Result<Header, BadHeader>
+    requires { used read ≤ 2 }
+    ensures { result ≡ behind read }
+{
+    match read {
+        Ok(header) => Ok(Header {
+            used: 1 + header.used,
+            ..header
+        }),
+        Err(bad) => Err(BadHeader { used: 1 + bad.used }),
+    }
+}
+
 // The type, once the length is there.
-fn read_type(size: u32, chunk: &[u8]) -> Header
+#[tactic(auto, unfolding(crate::specs::Headers::read_type))]
+fn read_type(size: u32, chunk: &[u8]) -> Result<Header, BadHeader>
     ensures { result ≡ read_type size chunk.now }
 {
-    if chunk.len() == 0 {
-        return Header {
-            refused: false,
-            used: 0,
-            taken: 2,
-            size: size,
-        };
+    let Some((byte, _)) = chunk.split_first() else {
+        return so_far(0, 2, size);
+    };
+    if *byte == framing::FRAME_TYPE {
+        return so_far(1, 3, size);
     }
-    if chunk[0] == framing::FRAME_TYPE {
-        return Header {
-            refused: false,
-            used: 1,
-            taken: 3,
-            size: size,
-        };
-    }
-    Header {
-        refused: true,
-        used: 1,
-        taken: 0,
-        size: 1,
-    }
+    Err(BadHeader { used: 1 })
 }
 
 // The length's second byte, and what comes behind it.
-fn read_low(size: u32, chunk: &[u8]) -> Header
+#[tactic(auto, unfolding(crate::specs::Headers::read_low))]
+fn read_low(size: u32, chunk: &[u8]) -> Result<Header, BadHeader>
     requires { size < 65536 }
     ensures { result ≡ read_low size chunk.now }
 {
-    if chunk.len() == 0 {
-        return Header {
-            refused: false,
-            used: 0,
-            taken: 1,
-            size: size,
-        };
-    }
-    let length = size + chunk[0] as u32;
+    let Some((low, rest)) = chunk.split_first() else {
+        return so_far(0, 1, size);
+    };
+    let length = size + *low as u32;
     if length == 0 {
-        return Header {
-            refused: true,
-            used: 1,
-            taken: 0,
-            size: 1,
-        };
+        return Err(BadHeader { used: 1 });
     }
-    let rest = read_type(length, &chunk[1..]);
-    Header {
-        refused: rest.refused,
-        used: 1 + rest.used,
-        taken: rest.taken,
-        size: rest.size,
-    }
+    behind(read_type(length, rest))
 }
 
 // The length's first byte, and what comes behind it.
-fn read_high(chunk: &[u8]) -> Header
+#[tactic(auto, unfolding(crate::specs::Headers::read_high))]
+fn read_high(chunk: &[u8]) -> Result<Header, BadHeader>
     ensures { result ≡ read_high chunk.now }
 {
-    if chunk.len() == 0 {
-        return Header {
-            refused: false,
-            used: 0,
-            taken: 0,
-            size: 0,
-        };
-    }
-    let rest = read_low(chunk[0] as u32 * 256, &chunk[1..]);
-    Header {
-        refused: rest.refused,
-        used: 1 + rest.used,
-        taken: rest.taken,
-        size: rest.size,
-    }
-}
-
-// What is missing of the header. A leaf with a requires: its caller knows that the state is valid.
-pub fn read_header(taken: u32, size: u32, chunk: &[u8]) -> Header
-    requires { size < 65536 }
-    ensures { result ≡ read_header taken size chunk.now }
-{
-    if taken == 0 {
-        return read_high(chunk);
-    }
-    if taken == 1 {
-        return read_low(size, chunk);
-    }
-    if taken == 2 {
-        return read_type(size, chunk);
-    }
-    Header {
-        refused: false,
-        used: 0,
-        taken: taken,
-        size: size,
-    }
+    let Some((high, rest)) = chunk.split_first() else {
+        return so_far(0, 0, 0);
+    };
+    behind(read_low(*high as u32 * 256, rest))
 }

@@ -2,7 +2,7 @@
 use Prim.Native.Nat.{ℕ, suc, ◌+◌, ◌-◌, ◌≤◌, ◌<◌}
 use mathlib.Core.Path.{◌≡◌, sym, ◌∙◌}
 use mathlib.Core.Logic.{⊎_elim}
-use mathlib.Core.Bool.{true, false, true≢false}
+use mathlib.Core.Bool.{true}
 use mathlib.Core.List.{List, [], ◌++◌, append-nil}
 use native.Mathlib.Omega.{arith}
 use lib.Pow.{are_bytes}
@@ -12,8 +12,10 @@ use Rattle.framing.specs.Frames.{message_limit, refused, start_of}
 use Rattle.framing.specs.Reading.{state, refusal, is_valid, held, step}
 use Rattle.framing.proofs.States.{Valid, at_start, after_one, after_two, valid_only, held-begins}
 use Rattle.framing.proofs.Reading.{step_valid}
+use Rattle.std.specs.Prelude.{Ok, Err}
 use Rattle.frame_headers.specs.declared.Header.{Header}
-use Rattle.frame_headers.specs.Headers.{read_header}
+use Rattle.frame_headers.specs.declared.BadHeader.{BadHeader}
+use Rattle.frame_headers.specs.Headers.{Read, read_header}
 use Rattle.frame_reader.specs.Bodies.{BodyAhead, read_body}
 use Rattle.frame_headers.proofs.Reached.{Reached, ReadOrRefused, header_read}
 use Rattle.frame_reader.proofs.Bodies.{body_is}
@@ -27,60 +29,59 @@ valid_size taken size v = go (valid_only taken size v)
     go (after_two more size p l m) = l
 
 -- what is known once the header was read
-pub record Ready (taken size : ℕ) (buffer chunk : List ℕ) (h : Header) : Type 0 where
+pub record Ready (taken size : ℕ) (buffer chunk : List ℕ) : Type 0 where
   pub room : message_limit ≤ length buffer
   pub valid : is_valid (state taken size) ≡ true
   pub are_bytes_lem : are_bytes chunk ≡ true
-  pub read : h ≡ read_header taken size chunk
 
-module _ {taken size : ℕ} {buffer chunk : List ℕ} {h : Header} (k : Ready taken size buffer chunk h) where
+module _ {taken size : ℕ} {buffer chunk : List ℕ} (k : Ready taken size buffer chunk) where
   abbrev bytes : List ℕ
   bytes = held (state taken size) buffer ++ chunk
 
-  read_or-refused : ReadOrRefused buffer taken size chunk h
-  read_or-refused = rw k.read (header_read buffer (valid_only taken size k.valid) chunk k.are_bytes_lem)
+  read_or-refused : (r : Read) → r ≡ read_header taken size chunk → ReadOrRefused buffer taken size chunk r
+  read_or-refused r e = rw e (header_read buffer (valid_only taken size k.valid) chunk k.are_bytes_lem)
 
-  is_read : h.refused ≡ false → Reached buffer taken size chunk h
-  is_read r = ⊎_elim (λ t. absurd (true≢false (sym t.0 ∙ r))) (λ t. t.1) read_or-refused
-
-  pub header_refused : h.refused ≡ true
-      → record { number = 6; complete = 0; used = h.used; length = 0; state = refusal; buffer = buffer } ≡ step (state taken size) buffer chunk
-  header_refused r =
-      let start : start_of bytes ≡ refused (taken + h.used) =
-      ⊎_elim (λ t. t.1) (λ t. absurd (true≢false (sym r ∙ t.0))) read_or-refused in
-      let used : taken + h.used - taken ≡ h.used = omega arith in
+  pub header_refused : (bad : BadHeader) → Err bad ≡ read_header taken size chunk
+      → record { number = 6; complete = 0; used = bad.used; length = 0; state = refusal; buffer = buffer } ≡ step (state taken size) buffer chunk
+  header_refused bad e =
+      let start : start_of bytes ≡ refused (taken + bad.used) = read_or-refused (Err bad) e in
+      let used : taken + bad.used - taken ≡ bad.used = omega arith in
       sym (step_valid (state taken size) buffer chunk k.room k.valid ∙ rw (start, used))
 
-  pub header_partly : h.refused ≡ false → h.taken < 3
-      → record { number = 0; complete = 0; used = h.used; length = 0; state = state h.taken h.size; buffer = buffer } ≡ step (state taken size) buffer chunk
-  header_partly r l = ⊎_elim (λ t. go t.1 t.2) (λ t. absurd (omega (arith, t.0))) (is_read r).so_far
-    where
-      go : h.used ≡ length chunk → Valid h.taken h.size
-          → record { number = 0; complete = 0; used = h.used; length = 0; state = state h.taken h.size; buffer = buffer } ≡ step (state taken size) buffer chunk
-      go all w =
-          let so_far = held (state h.taken h.size) buffer in
-          let has = held-begins w buffer k.room in
-          let none : drop h.used chunk ≡ [] = drop_of_length-le chunk {i = h.used} (omega arith) in
-          let is : bytes ≡ so_far = sym (is_read r).same ∙ rw (none, append-nil) in
-          let used : h.taken - taken ≡ h.used = omega (arith, (is_read r).count) in
-          let unwritten : drop 3 so_far ≡ [] = drop_of_length-le so_far {i = 3} (omega (arith, has.count)) in
-          sym
-          (step_valid (state taken size) buffer chunk k.room k.valid
-          ∙ rw (is, has.begins, has.back, has.count, used, unwritten, put-none))
+  module _ (h : Header) (e : Ok h ≡ read_header taken size chunk) where
+    is_read : Reached buffer taken size chunk h
+    is_read = read_or-refused (Ok h) e
 
-  pub body_ahead : h.refused ≡ false → 3 ≤ h.taken → BodyAhead h.taken h.size h.used buffer chunk
-  body_ahead r l =
-      ⊎_elim
-      (λ t. absurd (omega (arith, t.0)))
-      (λ t. record { header = l; frame = t.1; limit = t.2; place = (is_read r).place; room = k.room })
-      (is_read r).so_far
+    pub header_partly : h.state.taken < 3
+        → record { number = 0; complete = 0; used = h.used; length = 0; state = state h.state.taken h.state.size; buffer = buffer } ≡ step (state taken size) buffer chunk
+    header_partly l = ⊎_elim (λ t. go t.1 t.2) (λ t. absurd (omega (arith, t.0))) is_read.so_far
+      where
+        go : h.used ≡ length chunk → Valid h.state.taken h.state.size
+            → record { number = 0; complete = 0; used = h.used; length = 0; state = state h.state.taken h.state.size; buffer = buffer } ≡ step (state taken size) buffer chunk
+        go all w =
+            let so_far = held (state h.state.taken h.state.size) buffer in
+            let has = held-begins w buffer k.room in
+            let none : drop h.used chunk ≡ [] = drop_of_length-le chunk {i = h.used} (omega arith) in
+            let is : bytes ≡ so_far = sym is_read.same ∙ rw (none, append-nil) in
+            let used : h.state.taken - taken ≡ h.used = omega (arith, is_read.count) in
+            let unwritten : drop 3 so_far ≡ [] = drop_of_length-le so_far {i = 3} (omega (arith, has.count)) in
+            sym
+            (step_valid (state taken size) buffer chunk k.room k.valid
+            ∙ rw (is, has.begins, has.back, has.count, used, unwritten, put-none))
 
-  pub header_entire : h.refused ≡ false → 3 ≤ h.taken → read_body h.taken h.size h.used buffer chunk ≡ step (state taken size) buffer chunk
-  header_entire r l =
-      let a = body_ahead r l in
-      let n = h.taken - 3 in
-      let three : h.taken ≡ suc (suc (suc n)) = omega arith in
-      let same : held (state (suc (suc (suc n))) h.size) buffer ++ drop h.used chunk ≡ bytes = rw three at (is_read r).same in
-      let place : taken + h.used ≡ 3 + n = omega (arith, (is_read r).count) in
-      rw three (body_is n h.size h.used taken buffer chunk place (omega (arith, a.frame)) a.limit a.place k.room ∙ rw same)
-      ∙ sym (step_valid (state taken size) buffer chunk k.room k.valid)
+    pub body_ahead : 3 ≤ h.state.taken → BodyAhead h.state.taken h.state.size h.used buffer chunk
+    body_ahead l =
+        ⊎_elim
+        (λ t. absurd (omega (arith, t.0)))
+        (λ t. record { header = l; frame = t.1; limit = t.2; place = is_read.place; room = k.room })
+        is_read.so_far
+
+    pub header_entire : 3 ≤ h.state.taken → read_body h.state.taken h.state.size h.used buffer chunk ≡ step (state taken size) buffer chunk
+    header_entire l =
+        let a = body_ahead l in
+        let n = h.state.taken - 3 in
+        let three : h.state.taken ≡ suc (suc (suc n)) = omega arith in
+        let same : held (state (suc (suc (suc n))) h.state.size) buffer ++ drop h.used chunk ≡ bytes = rw three at is_read.same in
+        let place : taken + h.used ≡ 3 + n = omega (arith, is_read.count) in
+        rw three (body_is n h.state.size h.used taken buffer chunk place (omega (arith, a.frame)) a.limit a.place k.room ∙ rw same)
+        ∙ sym (step_valid (state taken size) buffer chunk k.room k.valid)

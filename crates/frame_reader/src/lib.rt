@@ -6,6 +6,14 @@ ghost use Rattle.framing.specs.Reading.{state, step};
 ghost use Rattle.frame_reader.specs.Answers.{step_of};
 ghost use Rattle.frame_reader.specs.Bodies.{BodyAhead, read_body};
 
+use frame_headers::State;
+
+// At a stream's start, and after each message.
+const FRESH: State = State { taken: 0, size: 0 };
+
+// No step makes it but a refusal, and no step takes it: so a refused stream stays refused.
+const REFUSED: State = State { taken: 0, size: 1 };
+
 // What a step answers: the number, whether a message stands in the buffer, bytes of the chunk taken, the message's length, and the state.
 #[repr(C)]
 #[derive(Clone, Copy)]
@@ -19,40 +27,41 @@ pub struct FrameStep {
 }
 
 // A step without a message.
-fn answer(number: u32, used: usize, taken: u32, size: u32) -> FrameStep
-    ensures { result ≡ record { number = number; complete = 0; used = used; length = 0; taken = taken; size = size } }
+fn answer(number: u32, used: usize, state: State) -> FrameStep
+    ensures { result ≡ record { number = number; complete = 0; used = used; length = 0; taken = state.taken; size = state.size } }
 {
     FrameStep {
-        number: number,
+        number,
         complete: 0,
         used: used as u64,
         length: 0,
-        taken: taken,
-        size: size,
+        taken: state.taken,
+        size: state.size,
     }
 }
 
 // Takes what is there of the message, from a place of the chunk on.
-fn read_body(taken: u32, size: u32, used: usize, message: &mut [u8], chunk: &[u8]) -> FrameStep
-    requires { BodyAhead taken size used message.old chunk.now }
-    ensures { step_of result message.new ≡ read_body taken size used message.old chunk.now }
+fn read_body(state: State, used: usize, message: &mut [u8], chunk: &[u8]) -> FrameStep
+    requires { BodyAhead state.taken state.size used message.old chunk.now }
+    ensures { step_of result message.new ≡ read_body state.taken state.size used message.old chunk.now }
 {
-    let left = (size + 2 - taken) as usize;
-    let at = taken as usize - framing::HEADER_BYTES;
+    let left = (state.size + 2 - state.taken) as usize;
+    let at = state.taken as usize - framing::HEADER_BYTES;
     let there = chunk.len() - used;
     if there < left {
-        octet_copies::copy_at_once(message, at, &chunk[used..chunk.len()]);
-        return answer(0, chunk.len(), taken + there as u32, size);
+        octet_copies::copy_at_once(message, at, &chunk[used..]);
+        let so_far = State {
+            taken: state.taken + there as u32,
+            ..state
+        };
+        return answer(0, chunk.len(), so_far);
     }
     let end = used + left;
     octet_copies::copy_at_once(message, at, &chunk[used..end]);
     FrameStep {
-        number: 0,
         complete: 1,
-        used: end as u64,
-        length: size - 1,
-        taken: 0,
-        size: 0,
+        length: state.size - 1,
+        ..answer(0, end, FRESH)
     }
 }
 
@@ -66,18 +75,19 @@ pub extern "C" fn svsc_frame_read(
 ) -> FrameStep
     ensures { step_of result message.new ≡ step (state taken size) message.old chunk.now }
 {
-    if message.len() < framing::MESSAGE_LIMIT {
-        return answer(5, 0, taken, size);
+    let state = State { taken, size };
+    let is_short = message.len() < framing::MESSAGE_LIMIT;
+    if is_short {
+        return answer(5, 0, state);
     }
-    if !frame_headers::is_valid(taken, size) {
-        return answer(6, 0, 0, 1);
+    if !state.is_valid() {
+        return answer(6, 0, REFUSED);
     }
-    let header = frame_headers::read_header(taken, size, chunk);
-    if header.refused {
-        return answer(6, header.used, 0, 1);
+    match state.read_header(chunk) {
+        Err(bad) => answer(6, bad.used, REFUSED),
+        Ok(header) if header.state.taken < framing::HEADER_BYTES as u32 => {
+            answer(0, header.used, header.state)
+        }
+        Ok(header) => read_body(header.state, header.used, message, chunk),
     }
-    if header.taken < framing::HEADER_BYTES as u32 {
-        return answer(0, header.used, header.taken, header.size);
-    }
-    read_body(header.taken, header.size, header.used, message, chunk)
 }

@@ -47,7 +47,7 @@ pub extern "C" fn svsc_frame_write(frame: &mut [u8], message: &[u8]) -> FrameWri
         };
     }
     let start = header(message.len());
-    octet_stores::store(frame, 0, &start);
+    octet_stores::copy(frame, 0, &start);
     octet_copies::copy_at_once(frame, framing::HEADER_BYTES, message);
     FrameWritten {
         number: 0,

@@ -1,8 +1,8 @@
 -- Records in a row: one more, all of them, and the tables of a fresh relay. Assumes nothing.
-use Prim.Native.Nat.{ℕ, zero, suc, ◌+◌, ◌*◌, ◌≤◌, ◌<◌}
+use Prim.Native.Nat.{ℕ, zero, suc, ◌+◌, ◌*◌}
 use mathlib.Core.Path.{◌≡◌, sym, ap, ◌∙◌}
 use mathlib.Core.List.{List, ◌++◌, append_assoc, append-nil}
-use native.Mathlib.Nat.{zero-mul, suc-mul, le_trans, mul-le-mul_right}
+use native.Mathlib.Nat.{zero-mul, suc-mul}
 use native.Mathlib.Numerals.{add-one}
 use native.Mathlib.Omega.{arith}
 use lib.ListN.{length, length-append}
@@ -38,12 +38,6 @@ one_more table row before after i at p e f =
     (ap (λ (k : ℕ). put (put table 0 (records i row)) k row) from
     ∙ put-behind table 0 at (records i row) row len
     ∙ ap (put table 0) (records_snoc i row))
-
-pub below_all : (i count n m : ℕ) → i < count → count * n ≤ m → i * n + n ≤ m
-below_all i count n m l h = rw suc-mul at (le_trans (mul-le-mul_right n l) h)
-
-pub step-at : (i n : ℕ) → i * n + n ≡ (i + 1) * n
-step-at i n = rw (add-one, suc-mul)
 
 -- ---- whole tables
 

@@ -11,12 +11,8 @@ fn fill_records(table: &mut [u8], row: &[u8], count: usize)
     requires { count * length row.now ≤ length table.old }
     ensures { table.new ≡ put table.old 0 (records count row.now) }
 {
-    let mut i = 0;
-    let mut at = 0;
-    while i < count {
-        octet_stores::copy(table, at, row);
-        at += row.len();
-        i += 1;
+    for i in 0..count {
+        octet_stores::copy(table, i * row.len(), row);
     }
 }
 
@@ -44,9 +40,9 @@ pub fn fresh_allowances(allowances: &mut [u8], time: u64, term: u64)
 {
     let kept = lease_terms::named_term(term);
     let mut row = [0u8; rules::ALLOWANCE_BYTES];
-    octet_stores::write64(&mut row, 0, allowance::CAPACITY);
-    octet_stores::write64(&mut row, rules::UPDATED_AT, time);
+    octet_stores::write::<8>(&mut row, 0, allowance::CAPACITY);
+    octet_stores::write::<8>(&mut row, rules::UPDATED_AT, time);
     fill_records(allowances, &row, rules::PARTNERS);
-    octet_stores::write64(allowances, rules::TERM_AT, kept);
-    octet_stores::write64(allowances, rules::CLOCK_AT, time);
+    octet_stores::write::<8>(allowances, rules::TERM_AT, kept);
+    octet_stores::write::<8>(allowances, rules::CLOCK_AT, time);
 }

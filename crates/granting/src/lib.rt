@@ -11,7 +11,9 @@ ghost use Rattle.svsc.specs.Messages.{cookie_bytes, lease_granted, encode};
 ghost use Rattle.answers.specs.Applied.{handled, applied};
 ghost use Rattle.granting.specs.Asked.{Leasable};
 
+use allowance_table::Allowances;
 use answers::Answer;
+use lease_table::Leases;
 
 // Answers with a lease.
 fn tell(reply: &mut [u8], id: u32, cookie: &[u8], until: u64) -> Answer
@@ -19,14 +21,14 @@ fn tell(reply: &mut [u8], id: u32, cookie: &[u8], until: u64) -> Answer
     ensures { (cs ls relay : List ℕ) → handled result cs ls reply.new relay
         ≡ applied (reply_only cs ls (encode (lease_granted id cookie.now until))) reply.old relay }
 {
-    let sent = svsc_lease_writers::svsc_write_lease_granted(reply, id, cookie, until);
-    answers::replied(sent.length as u32)
+    let sent = svsc_lease_writers::svsc_write_lease_granted(reply, id, cookie, until).unwrap();
+    answers::replied(sent as u32)
 }
 
 // Writes a new lease to the row that was decided on, and answers with it.
 pub fn grant(
     leases: &mut [u8],
-    allowances: &[u8],
+    allowances: &Allowances,
     time: u64,
     c: u8,
     random: &[u8],
@@ -34,7 +36,7 @@ pub fn grant(
     row: usize,
     id: u32,
 ) -> Answer
-    requires { (Leasable leases.old allowances.now time c reply.old) × (length random.now ≡ random_bytes) × (row < row_count) }
+    requires { (Leasable leases.old time c reply.old) × (length random.now ≡ random_bytes) × (row < row_count) }
     ensures { (cs relay : List ℕ) → handled result cs leases.new reply.new relay
         ≡ applied (plan_lease (lent cs leases.old allowances.now) time c
         (granted row id (random_cookie random.now))) reply.old relay }
@@ -48,19 +50,19 @@ pub fn grant(
 // Writes the row that is renewed, and answers with the id and the cookie that it has.
 pub fn renew(
     leases: &mut [u8],
-    allowances: &[u8],
+    allowances: &Allowances,
     time: u64,
     c: u8,
     reply: &mut [u8],
     row: usize,
 ) -> Answer
-    requires { (Leasable leases.old allowances.now time c reply.old) × (row < row_count) }
+    requires { (Leasable leases.old time c reply.old) × (row < row_count) }
     ensures { (cs relay : List ℕ) → handled result cs leases.new reply.new relay
         ≡ applied (plan_lease (lent cs leases.old allowances.now) time c (renewed row)) reply.old relay }
 {
     let until = lease_terms::lease_end(allowances, time);
-    let id = lease_table::id_of(leases, row);
-    let answer = tell(reply, id, lease_table::cookie_of(leases, row), until);
+    let rows = Leases::new(leases);
+    let answer = tell(reply, rows.id_of(row), rows.cookie_of(row), until);
     lease_writes::renew(leases, row, until, c);
     answer
 }
@@ -70,6 +72,6 @@ pub fn refuse(reply: &mut [u8]) -> Answer
     ensures { (cs ls al relay : List ℕ) → handled result cs ls reply.new relay ≡ applied (refuse_lease (lent cs ls al))
         reply.old relay }
 {
-    let sent = svsc_lease_writers::svsc_write_lease_refused(reply);
-    answers::replied(sent.length as u32)
+    let sent = svsc_lease_writers::svsc_write_lease_refused(reply).unwrap();
+    answers::replied(sent as u32)
 }

@@ -8,6 +8,6 @@ ghost use Rattle.rules.specs.Tables.{partner_of, owner_of, is_open};
 pub fn holder_counts(connections: &[u8], row: usize, holder: u8) -> bool
     ensures { result ≡ (eqb (partner_of holder) (owner_of row) && is_open connections.now holder) }
 {
-    (holder as usize / rules::CONNECTIONS_PER_PARTNER == row / rules::ROWS_PER_PARTNER)
+    (connection_table::partner_of(holder) == row / rules::ROWS_PER_PARTNER)
         & connection_table::is_open(connections, holder)
 }

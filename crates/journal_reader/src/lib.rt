@@ -1,5 +1,5 @@
-// A reader of a journal: a struct that holds the bytes and a place in them, and thin functions over it. Each takes it apart and leaves the work to
-// one on the slice and the number.
+// A reader of a journal: a struct that holds the bytes and a place in them, with thin methods. `read` and `next` leave the work to functions
+// on the slice and the number.
 #![tactic(auto)]
 
 ghost use Rattle.std.specs.Prelude.{◌≡◌};
@@ -14,55 +14,43 @@ pub struct Reader<'a> {
     pub place: usize,
 }
 
-// A place past the end is the end.
-fn place_in(journal: &[u8], place: usize) -> usize
-    ensures { result ≡ place_in journal.now place }
-{
-    if place < journal.len() {
-        place
-    } else {
-        journal.len()
-    }
-}
-
 // The place behind the record that stands at a place, or the end where fewer bytes are left.
 fn place_after(journal: &[u8], place: usize) -> usize
     ensures { result ≡ place_after journal.now place }
 {
-    let at = place_in(journal, place);
-    if journal.len() - at < journal_records::RECORD_BYTES {
-        return journal.len();
+    let at = place.min(journal.len());
+    (at + journal_records::RECORD_BYTES).min(journal.len())
+}
+
+impl<'a> Reader<'a> {
+    // At the journal's first byte.
+    pub fn new(journal: &'a [u8]) -> Reader<'a>
+        ensures { (result.journal ≡ journal.entry) × (result.place ≡ 0) }
+    {
+        Reader { journal, place: 0 }
     }
-    at + journal_records::RECORD_BYTES
-}
 
-// At the journal's first byte.
-pub fn new<'a>(journal: &'a [u8]) -> Reader<'a>
-    ensures { (result.journal ≡ journal.entry) × (result.place ≡ 0) }
-{
-    Reader { journal, place: 0 }
-}
+    // Its place; past the end it is at the end.
+    pub fn at(self) -> usize
+        ensures { result ≡ place_in self.entry.journal.now self.entry.place }
+    {
+        self.place.min(self.journal.len())
+    }
 
-// Its place; past the end it is at the end.
-pub fn at<'a>(reader: Reader<'a>) -> usize
-    ensures { result ≡ place_in reader.entry.journal.now reader.entry.place }
-{
-    place_in(reader.journal, reader.place)
-}
+    // What stands there, also where no record of the journal begins.
+    pub fn read(self) -> Item
+        ensures { result ≡ item_at self.entry.journal.now self.entry.place }
+    {
+        journal_records::read(self.journal, self.place)
+    }
 
-// What stands there, also where no record of the journal begins.
-pub fn read<'a>(reader: Reader<'a>) -> Item
-    ensures { result ≡ item_at reader.entry.journal.now reader.entry.place }
-{
-    journal_records::read(reader.journal, reader.place)
-}
-
-// The reader behind it: behind a tail, and at the end, it is at the end.
-pub fn next<'a>(reader: Reader<'a>) -> Reader<'a>
-    ensures { (result.journal ≡ reader.entry.journal) × (result.place ≡ place_after reader.entry.journal.now reader.entry.place) }
-{
-    Reader {
-        journal: reader.journal,
-        place: place_after(reader.journal, reader.place),
+    // The reader behind it: behind a tail, and at the end, it is at the end.
+    pub fn next(self) -> Reader<'a>
+        ensures { (result.journal ≡ self.entry.journal) × (result.place ≡ place_after self.entry.journal.now self.entry.place) }
+    {
+        Reader {
+            place: place_after(self.journal, self.place),
+            ..self
+        }
     }
 }

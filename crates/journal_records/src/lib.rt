@@ -6,18 +6,28 @@ ghost use Rattle.octets.specs.Octets.{byte_at};
 ghost use Rattle.rules.specs.Sizes.{open_cost};
 ghost use Rattle.journal.specs.Records.{record_bytes, record_at, unrecorded, priced, record_with, answer_record};
 ghost use Rattle.journal_records.specs.Items.{as_record, item_at};
+ghost use Rattle.journal_records.specs.Calls.{number_of};
 
 pub const RECORD_BYTES: usize = 16;
 
-// The calls.
-pub const OPEN: u8 = 0;
+// The calls, by the number that a record has.
+#[derive(Clone, Copy)]
+pub enum Call {
+    Open = 0,
+    Message = 1,
+    Close = 2,
+    Keepalive = 3,
+}
 
-pub const MESSAGE: u8 = 1;
+impl Call {
+    pub fn number(self) -> u8
+        ensures { result ≡ number_of self }
+    {
+        self as u8
+    }
+}
 
-pub const CLOSE: u8 = 2;
-
-pub const KEEPALIVE: u8 = 3;
-
+// A record as it was read: its call is a number, since a damaged one has any.
 #[derive(Clone, Copy)]
 pub struct Record {
     pub time: u64,
@@ -28,7 +38,8 @@ pub struct Record {
     pub charge: u32,
 }
 
-// What stands at a place of a journal: a record, fewer bytes than a record has, or nothing.
+// What stands at a place of a journal: a record, fewer bytes than a record has, or nothing. Not an Option of a Result, since a reader tells all
+// three.
 #[derive(Clone, Copy)]
 pub enum Item {
     Record(Record),
@@ -42,12 +53,12 @@ fn record_at(journal: &[u8], place: usize) -> Record
     ensures { as_record result ≡ record_at journal.now place }
 {
     Record {
-        time: octets::read64(journal, place),
+        time: octets::number::<8>(journal, place),
         connection: octets::byte(journal, place + 8),
         call: octets::byte(journal, place + 9),
         kind: octets::byte(journal, place + 10),
         answer: octets::byte(journal, place + 11),
-        charge: octets::read32(journal, place + 12),
+        charge: octets::number::<4>(journal, place + 12) as u32,
     }
 }
 
@@ -58,7 +69,8 @@ pub fn read(journal: &[u8], place: usize) -> Item
     if journal.len() <= place {
         return Item::End;
     }
-    if journal.len() - place < RECORD_BYTES {
+    let short = journal.len() - place < RECORD_BYTES;
+    if short {
         return Item::Tail;
     }
     Item::Record(record_at(journal, place))
@@ -68,7 +80,7 @@ pub fn read(journal: &[u8], place: usize) -> Item
 pub fn is_unrecorded(number: u32) -> bool
     ensures { result ≡ unrecorded number }
 {
-    (1 <= number) & (number <= 3)
+    (1..=3).contains(&number)
 }
 
 // Answers 0 and 9, which have a charge.
@@ -83,17 +95,18 @@ fn record_of(
     number: u32,
     time: u64,
     connection: u64,
-    call: u8,
+    call: Call,
     kind: u8,
     price: u64,
 ) -> [u8; RECORD_BYTES]
-    ensures { result ≡ answer_record number (record_with number time connection call kind price) }
+    ensures { result ≡ answer_record number (record_with number time connection (number_of call) kind price) }
 {
     if is_unrecorded(number) {
         return [0u8; RECORD_BYTES];
     }
-    let t = octets::bytes64(time);
-    let p = octets::bytes64(charge(number, price));
+    let called = call.number();
+    let t = octets::bytes::<8>(time);
+    let p = octets::bytes::<8>(charge(number, price));
     [
         t[0],
         t[1],
@@ -104,7 +117,7 @@ fn record_of(
         t[6],
         t[7],
         (connection % 256) as u8,
-        call,
+        called,
         kind,
         (number % 256) as u8,
         p[4],
@@ -118,7 +131,7 @@ fn record_of(
 pub fn open_record(number: u32, time: u64, connection: u64) -> [u8; RECORD_BYTES]
     ensures { result ≡ answer_record number (record_with number time connection 0 0 open_cost) }
 {
-    record_of(number, time, connection, OPEN, 0, rules::OPEN_COST)
+    record_of(number, time, connection, Call::Open, 0, rules::OPEN_COST)
 }
 
 // The record of a message, by its first byte.
@@ -131,29 +144,33 @@ pub fn message_record(
 ) -> [u8; RECORD_BYTES]
     ensures { result ≡ answer_record number (record_with number time connection 1 (byte_at m.now 0) price) }
 {
-    record_of(number, time, connection, MESSAGE, octets::byte(m, 0), price)
+    record_of(
+        number,
+        time,
+        connection,
+        Call::Message,
+        octets::byte(m, 0),
+        price,
+    )
 }
 
 // The record of a close.
 pub fn close_record(number: u32, time: u64, connection: u64) -> [u8; RECORD_BYTES]
     ensures { result ≡ answer_record number (record_with number time connection 2 0 0) }
 {
-    record_of(number, time, connection, CLOSE, 0, 0)
+    record_of(number, time, connection, Call::Close, 0, 0)
 }
 
 // The record of a keepalive.
 pub fn keepalive_record(number: u32, time: u64, connection: u64) -> [u8; RECORD_BYTES]
     ensures { result ≡ answer_record number (record_with number time connection 3 0 0) }
 {
-    record_of(number, time, connection, KEEPALIVE, 0, 0)
+    record_of(number, time, connection, Call::Keepalive, 0, 0)
 }
 
 // What the journal says that a call was charged, or would have cost.
 fn charge(number: u32, price: u64) -> u64
     ensures { result ≡ (if priced number then price else 0) }
 {
-    if is_priced(number) {
-        return price;
-    }
-    0
+    if is_priced(number) { price } else { 0 }
 }

@@ -1,2 +1,2 @@
 pub mod RowSearch
-pub mod LiveRows
+pub mod Found

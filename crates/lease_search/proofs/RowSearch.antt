@@ -1,17 +1,13 @@
 -- Searches by number over any test: one turn, the end, and that one passes exactly if the first that does comes before the end. Assumes nothing.
 use Prim.Native.Nat.{ℕ, zero, suc, ◌+◌, ◌-◌, ◌≤◌, ◌<◌}
-use mathlib.Core.Path.{◌≡◌, sym, ap, ◌∙◌}
-use mathlib.Core.Bool.{Bool, true, false}
+use mathlib.Core.Path.{◌≡◌, refl, sym, ap, ◌∙◌}
+use mathlib.Core.Bool.{Bool, true, false, ◌||◌}
 use native.Mathlib.Numerals.{add-one}
 use native.Mathlib.Omega.{arith}
 use lib.Dec.{ltb}
 use borrow.Author.Tests.{lt-ltb, le-ltb}
-use Rattle.rules.specs.Searches.{first_from, any_from, first_row, end_row, first_own}
-use Rattle.lease_table.proofs.Rows.{own-count}
-
--- the search over a partner's rows
-pub own-start : (f : ℕ → Bool) (p : ℕ) {end : ℕ} → end ≡ end_row p → first_own p f ≡ first_from f (first_row p) (end - first_row p)
-own-start f p e = rw (own-count p e)
+use Rattle.std.specs.List.{list_any, range_with_len}
+use Rattle.rules.specs.Searches.{first_from, any_from}
 
 -- the numbers from i up to the end, where t is what the test of i answers
 module _ (f : ℕ → Bool) {i : ℕ} (end : ℕ) where
@@ -27,19 +23,6 @@ module _ (f : ℕ → Bool) {i : ℕ} (end : ℕ) where
   unfolding first_from
   first-none l h = let e : end - i ≡ 0 = omega arith in rw e (omega arith)
 
-  -- the same of whether one passes
-  pub any_hit : {t : Bool} → i < end → t ≡ f i → t ≡ true → any_from f i (end - i) ≡ true
-  unfolding any_from
-  any_hit h test e = let more : end - i ≡ suc (end - (i + 1)) = omega arith in rw (more, any_from, ← test, e)
-
-  pub any_miss : {t : Bool} → i < end → t ≡ f i → t ≡ false → any_from f i (end - i) ≡ any_from f (i + 1) (end - (i + 1))
-  unfolding any_from
-  any_miss h test e = let more : end - i ≡ suc (end - (i + 1)) = omega arith in rw (more, any_from, ← test, e, add-one i)
-
-  pub any_none : end ≤ i → any_from f i (end - i) ≡ false
-  unfolding any_from
-  any_none h = let e : end - i ≡ 0 = omega arith in rw e
-
 -- one turn of both searches, by the test of i
 any_turn : (f : ℕ → Bool) (i n : ℕ) (t : Bool) → any_from f (suc i) n ≡ ltb (first_from f (suc i) n) (suc i + n)
     → elim t [ true ↦ true | false ↦ any_from f (suc i) n ] ≡ ltb (elim t [ true ↦ i | false ↦ first_from f (suc i) n ]) (i + suc n)
@@ -50,3 +33,24 @@ pub any_first : (f : ℕ → Bool) (i n : ℕ) → any_from f i n ≡ ltb (first
 unfolding first_from any_from
 any_first f i zero = sym (le-ltb i (i + 0) (omega arith))
 any_first f i (suc n) = any_turn f i n (f i) (any_first f (suc i) n)
+
+-- a search of the library over the n numbers from i on
+pub any_range : (f : ℕ → Bool) (i n : ℕ) → list_any f (range_with_len i n) ≡ any_from f i n
+unfolding any_from
+any_range f i zero = refl
+any_range f i (suc n) = go (f i) (rw (add-one i) (any_range f (suc i) n))
+  where
+    go : (t : Bool) → list_any f (range_with_len (i + 1) n) ≡ any_from f (suc i) n
+        → t || list_any f (range_with_len (i + 1) n) ≡ elim t as (λ z. Bool) [ true ↦ true | false ↦ any_from f (suc i) n ]
+    go true h = refl
+    go false h = h
+
+-- a search comes to the end at most
+pub first-most : (f : ℕ → Bool) (i n : ℕ) → first_from f i n ≤ i + n
+unfolding first_from
+first-most f i zero = omega arith
+first-most f i (suc n) = go (f i) (first-most f (suc i) n)
+  where
+    go : (t : Bool) → first_from f (suc i) n ≤ suc i + n → elim t as (λ z. ℕ) [ true ↦ i | false ↦ first_from f (suc i) n ] ≤ i + suc n
+    go true l = omega arith
+    go false l = omega arith

@@ -1,102 +1,73 @@
-// The searches over a partner's lease rows. Tables of the right size and numbers in range are required: the relay's checks 1 and 3 come
-// before anything here is called, and no answer would serve where they fail.
+// The searches over a partner's lease rows. Numbers in range are required: the relay's check 3 comes before anything here is called, and no
+// answer would serve where it fails.
 #![tactic(auto)]
 
-ghost use Rattle.std.specs.Prelude.{◌≡◌, ◌<◌, length};
-ghost use Rattle.rules.specs.Sizes.{partners, connection_count, row_count, leases_size};
-ghost use Rattle.rules.specs.Searches.{first_own, any_own};
+ghost use Rattle.std.specs.Prelude.{◌≡◌, ◌<◌, ℕ, Bool};
+ghost use Rattle.rules.specs.Sizes.{partners, connection_count, row_count};
+ghost use Rattle.rules.specs.Searches.{first_own};
+ghost use Rattle.rules.specs.Tables.{partner_of};
 ghost use Rattle.rules.specs.Leases.{holds_row, cookie_taken, row_to_extend};
 ghost use Rattle.rules.specs.Sessions.{row_of_id};
-ghost use Rattle.lease_search.specs.Searches.{passes};
+ghost use Rattle.lease_table.specs.Rows.{row_if_own};
+ghost use Rattle.lease_search.specs.Searches.{Tests};
 
-// What a search over a partner's rows looks for. The cookie is lent beside it, since an enum holds no slice.
-#[derive(Clone, Copy)]
-enum Sought {
-    HeldBy(u8), // a live row that this connection holds
-    WithId(u32), // a live row that has this id
-    WithCookie, // a live row that has the cookie
-    OwnWithCookie(u8), // a live row that this connection holds and that has the cookie
-}
+use lease_table::Leases;
 
-// Whether the row is what is sought.
-fn passes(leases: &[u8], time: u64, sought: Sought, cookie: &[u8], row: usize) -> bool
-    requires { (length leases.now ≡ leases_size) × (row < row_count) }
-    ensures { result ≡ passes sought leases.now time cookie.now row }
-{
-    if !lease_table::is_live(leases, time, row) {
-        return false;
-    }
-    match sought {
-        Sought::HeldBy(c) => lease_table::holder(leases, row) == c,
-        Sought::WithId(id) => lease_table::id_of(leases, row) == id,
-        Sought::WithCookie => octet_comparisons::equal(lease_table::cookie_of(leases, row), cookie),
-        Sought::OwnWithCookie(c) => (lease_table::holder(leases, row) == c)
-            & octet_comparisons::equal(lease_table::cookie_of(leases, row), cookie),
-    }
-}
-
-// The partner's lowest row that is sought, or the end of its rows.
-fn first_own(leases: &[u8], time: u64, partner: usize, sought: Sought, cookie: &[u8]) -> usize
-    requires { (length leases.now ≡ leases_size) × (partner < partners) }
-    ensures { result ≡ first_own partner (passes sought leases.now time cookie.now) }
+// The partner's lowest row that is sought: of each row the closure tells whether it is. Of a closure whose `post` is no test nothing is promised.
+pub fn first_own<F: Fn(usize) -> bool>(partner: usize, sought: F) -> Option<usize>
+    requires in_range { partner < partners }
+    requires callable { (row : ℕ) → row < row_count → F.pre sought row }
+    ensures { (test : ℕ → Bool) → Tests (F.post sought) test
+        → result ≡ row_if_own partner (first_own partner test) }
 {
     let end = lease_table::end_row(partner);
-    for row in rules::ROWS_PER_PARTNER * partner..end {
-        if passes(leases, time, sought, cookie, row) {
-            return row;
-        }
-    }
-    end
-}
-
-// Whether a row of the partner is sought.
-fn any_own(leases: &[u8], time: u64, partner: usize, sought: Sought, cookie: &[u8]) -> bool
-    requires { (length leases.now ≡ leases_size) × (partner < partners) }
-    ensures { result ≡ any_own partner (passes sought leases.now time cookie.now) }
-{
-    first_own(leases, time, partner, sought, cookie) < lease_table::end_row(partner)
+    (rules::ROWS_PER_PARTNER * partner..end).find(
+        |&row|
+            requires { F.pre sought row }
+        { sought(row) },
+    )
 }
 
 // Whether a connection holds a live row.
-pub fn holds_row(leases: &[u8], time: u64, c: u8) -> bool
-    requires { (length leases.now ≡ leases_size) × (c < connection_count) }
+pub fn holds_row(leases: &Leases, time: u64, c: u8) -> bool
+    requires { c < connection_count }
     ensures { result ≡ holds_row leases.now time c }
 {
-    any_own(
-        leases,
-        time,
-        lease_table::partner_of(c),
-        Sought::HeldBy(c),
-        b"",
-    )
+    let partner = lease_table::partner_of(c);
+    first_own(partner, |row| {
+        leases.is_live(time, row) && leases.holder(row) == c
+    })
+    .is_some()
 }
 
 // Whether a live row of the partner has the cookie.
-pub fn cookie_taken(leases: &[u8], time: u64, partner: usize, cookie: &[u8]) -> bool
-    requires { (length leases.now ≡ leases_size) × (partner < partners) }
+pub fn cookie_taken(leases: &Leases, time: u64, partner: usize, cookie: &[u8]) -> bool
+    requires { partner < partners }
     ensures { result ≡ cookie_taken leases.now time partner cookie.now }
 {
-    any_own(leases, time, partner, Sought::WithCookie, cookie)
+    first_own(partner, |row| {
+        leases.is_live(time, row) && octet_comparisons::equal(leases.cookie_of(row), cookie)
+    })
+    .is_some()
 }
 
-// The lowest live row that a connection holds and that has the cookie, or the end of its partner's rows.
-pub fn row_to_extend(leases: &[u8], time: u64, c: u8, cookie: &[u8]) -> usize
-    requires { (length leases.now ≡ leases_size) × (c < connection_count) }
-    ensures { result ≡ row_to_extend leases.now time c cookie.now }
+// The lowest live row that a connection holds and that has the cookie.
+pub fn row_to_extend(leases: &Leases, time: u64, c: u8, cookie: &[u8]) -> Option<usize>
+    requires { c < connection_count }
+    ensures { result ≡ row_if_own (partner_of c) (row_to_extend leases.now time c cookie.now) }
 {
-    first_own(
-        leases,
-        time,
-        lease_table::partner_of(c),
-        Sought::OwnWithCookie(c),
-        cookie,
-    )
+    let partner = lease_table::partner_of(c);
+    first_own(partner, |row| {
+        leases.is_live(time, row)
+            && leases.holder(row) == c
+            && octet_comparisons::equal(leases.cookie_of(row), cookie)
+    })
 }
 
-// The partner's lowest live row that has the id, or the end of its rows.
-pub fn row_of_id(leases: &[u8], time: u64, partner: usize, id: u32) -> usize
-    requires { (length leases.now ≡ leases_size) × (partner < partners) }
-    ensures { result ≡ row_of_id leases.now time partner id }
+// The partner's lowest live row that has the id.
+pub fn row_of_id(leases: &Leases, time: u64, partner: usize, id: u32) -> Option<usize>
+    requires { partner < partners }
+    ensures { result ≡ row_if_own partner (row_of_id leases.now time partner id) }
 {
-    first_own(leases, time, partner, Sought::WithId(id), b"")
+    first_own(partner, |row| leases.is_live_with_id(time, id, row))
 }

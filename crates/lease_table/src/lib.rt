@@ -1,12 +1,14 @@
 // The lease table: a partner's rows and their fields.
-// Tables of the right size and numbers in range are required where a field is read or a place worked out: the relay's checks 1 and 3 come
-// before anything here is called, and no answer would serve where they fail.
+// Numbers in range are required where a field is read or a place worked out, and the size of a table of `Leases`: the relay's checks 1 and 3
+// come before anything here is called, and no answer would serve where they fail.
 #![tactic(auto)]
 
-ghost use Rattle.std.specs.Prelude.{◌≡◌, ◌<◌, length};
+ghost use Rattle.std.specs.Prelude.{◌≡◌, ◌<◌, List, ℕ, length};
 ghost use Rattle.rules.specs.Sizes.{partners, row_count, leases_size};
 ghost use Rattle.rules.specs.Searches.{end_row};
 ghost use Rattle.rules.specs.Tables.{partner_of, expiry, id_of, holder, cookie_of, live, live_with_id};
+
+use std::marker::Model;
 
 // ---- partners and their rows
 
@@ -14,10 +16,10 @@ ghost use Rattle.rules.specs.Tables.{partner_of, expiry, id_of, holder, cookie_o
 pub fn partner_of(c: u8) -> usize
     ensures { result ≡ partner_of c }
 {
-    c as usize / rules::CONNECTIONS_PER_PARTNER
+    connection_table::partner_of(c)
 }
 
-// The row behind the partner's last: what a search answers that found none.
+// The row behind the partner's last.
 pub fn end_row(partner: usize) -> usize
     requires { partner < partners }
     ensures { result ≡ end_row partner }
@@ -25,52 +27,91 @@ pub fn end_row(partner: usize) -> usize
     rules::ROWS_PER_PARTNER * partner + rules::ROWS_PER_PARTNER
 }
 
-// ---- the fields of a row
+// ---- the table and the fields of its rows
 
-pub fn expiry(leases: &[u8], row: usize) -> u64
-    requires { (length leases.now ≡ leases_size) × (row < row_count) }
-    ensures { result ≡ expiry leases.now row }
-{
-    octets::read64(leases, rules::LEASE_BYTES * row)
-}
-
-pub fn id_of(leases: &[u8], row: usize) -> u32
-    requires { (length leases.now ≡ leases_size) × (row < row_count) }
-    ensures { result ≡ id_of leases.now row }
-{
-    octets::read32(leases, rules::LEASE_BYTES * row + rules::ID_AT)
-}
-
-// The connection that holds the row, or 255.
-pub fn holder(leases: &[u8], row: usize) -> u8
+// The connection that holds a row of a table of whatever size, or 255.
+pub fn holder(bytes: &[u8], row: usize) -> u8
     requires { row < row_count }
-    ensures { result ≡ holder leases.now row }
+    ensures { result ≡ holder bytes.now row }
 {
-    octets::byte(leases, rules::LEASE_BYTES * row + rules::HOLDER_AT)
+    octets::byte(bytes, rules::LEASE_BYTES * row + rules::HOLDER_AT)
 }
 
-pub fn cookie_of(leases: &[u8], row: usize) -> &[u8]
+// The cookie of a row, of the same tables.
+pub fn cookie_of(bytes: &[u8], row: usize) -> &[u8]
     requires { row < row_count }
-    ensures { result.now ≡ cookie_of leases.now row }
+    ensures { result.now ≡ cookie_of bytes.now row }
 {
     octets::part(
-        leases,
+        bytes,
         rules::LEASE_BYTES * row + rules::COOKIE_AT,
         svsc::COOKIE,
     )
 }
 
-pub fn is_live(leases: &[u8], time: u64, row: usize) -> bool
-    requires { (length leases.now ≡ leases_size) × (row < row_count) }
-    ensures { result ≡ live leases.now time row }
-{
-    time < expiry(leases, row)
+// A lease table of the right size.
+#[derive(Drop)]
+pub struct Leases<'a> {
+    bytes: &'a [u8],
 }
 
-// Whether the row is live and has the id.
-pub fn is_live_with_id(leases: &[u8], time: u64, id: u32, row: usize) -> bool
-    requires { (length leases.now ≡ leases_size) × (row < row_count) }
-    ensures { result ≡ live_with_id leases.now time id row }
-{
-    is_live(leases, time, row) & (id_of(leases, row) == id)
+impl<'a> Model for Leases<'a> {
+    ghost Value = { List ℕ };
+
+    ghost view = { λ leases. leases.bytes.now };
+
+    ghost invariant = { λ leases. length leases.bytes.now ≡ leases_size };
+}
+
+impl<'a> Leases<'a> {
+    pub fn new(bytes: &'a [u8]) -> Self
+        requires { length bytes.now ≡ leases_size }
+        ensures { result ≡ bytes.now }
+    {
+        Leases { bytes }
+    }
+
+    pub fn expiry(&self, row: usize) -> u64
+        requires { row < row_count }
+        ensures { result ≡ expiry self.now row }
+    {
+        octets::number::<8>(self.bytes, rules::LEASE_BYTES * row)
+    }
+
+    pub fn id_of(&self, row: usize) -> u32
+        requires { row < row_count }
+        ensures { result ≡ id_of self.now row }
+    {
+        octets::number::<4>(self.bytes, rules::LEASE_BYTES * row + rules::ID_AT) as u32
+    }
+
+    // The connection that holds the row, or 255.
+    pub fn holder(&self, row: usize) -> u8
+        requires { row < row_count }
+        ensures { result ≡ holder self.now row }
+    {
+        holder(self.bytes, row)
+    }
+
+    pub fn cookie_of(&self, row: usize) -> &[u8]
+        requires { row < row_count }
+        ensures { result.now ≡ cookie_of self.now row }
+    {
+        cookie_of(self.bytes, row)
+    }
+
+    pub fn is_live(&self, time: u64, row: usize) -> bool
+        requires { row < row_count }
+        ensures { result ≡ live self.now time row }
+    {
+        time < self.expiry(row)
+    }
+
+    // Whether the row is live and has the id.
+    pub fn is_live_with_id(&self, time: u64, id: u32, row: usize) -> bool
+        requires { row < row_count }
+        ensures { result ≡ live_with_id self.now time id row }
+    {
+        self.is_live(time, row) && self.id_of(row) == id
+    }
 }

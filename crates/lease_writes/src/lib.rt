@@ -14,8 +14,8 @@ pub fn grant(leases: &mut [u8], row: usize, until: u64, id: u32, cookie: &[u8], 
     ensures { leases.new ≡ grant leases.old row until id cookie.now c }
 {
     let at = rules::LEASE_BYTES * row;
-    octet_stores::write64(leases, at, until);
-    octet_stores::write32(leases, at + rules::ID_AT, id);
+    octet_stores::write::<8>(leases, at, until);
+    octet_stores::write::<4>(leases, at + rules::ID_AT, id as u64);
     octet_stores::write8(leases, at + rules::HOLDER_AT, c);
     octet_stores::copy(leases, at + rules::COOKIE_AT, cookie);
 }
@@ -25,7 +25,7 @@ pub fn extend(leases: &mut [u8], row: usize, until: u64)
     requires { row < row_count }
     ensures { leases.new ≡ set_expiry leases.old row until }
 {
-    octet_stores::write64(leases, rules::LEASE_BYTES * row, until);
+    octet_stores::write::<8>(leases, rules::LEASE_BYTES * row, until);
 }
 
 // Writes when a renewed lease ends, and who holds it; its id, its cookie and bytes 13 to 15 stay.

@@ -1,9 +1,8 @@
 -- The lease decision: a law for each way out, and that the row is one of the partner's. Assumes nothing.
-use Rattle.std.specs.Prelude.{if◌then◌else◌}
+use Rattle.std.specs.Prelude.{Option, Some, None, ok_or, Result, Ok, Err, if◌then◌else◌}
 use Prim.Native.Nat.{ℕ, ◌≤◌, ◌<◌}
 use mathlib.Core.Path.{◌≡◌, refl, sym, ap, ◌∙◌}
 use mathlib.Core.Bool.{Bool, true, false}
-use mathlib.Core.Option.{none, some}
 use mathlib.Core.List.{List}
 use native.Mathlib.Omega.{arith}
 use lib.Dec.{ltb}
@@ -11,13 +10,13 @@ use borrow.Author.Tests.{lt-ltb, le-ltb}
 use Rattle.rules.specs.Sizes.{candidate_count}
 use Rattle.rules.specs.Searches.{end_row}
 use Rattle.rules.specs.Tables.{partner_of}
-use Rattle.rules.specs.Leases.{random_cookie, first_free, holds_row, spare_row, cookie_taken, row_to_renew, renew_or_grant, LeaseDecision, holds_lease, no_spare_row, cookie_in_use, no_free_id, renewed, granted, decide_lease}
+use Rattle.rules.specs.Leases.{random_cookie, first_free, holds_row, spare_row, cookie_taken, row_to_renew, renew_or_grant, LeaseDecision, holds_lease, no_spare_row, cookie_in_use, renewed, granted, decide_lease}
 use Rattle.rules.proofs.Decisions.{is-renewed, is-granted}
-use Rattle.leases.specs.declared.FreeId.{FreeId}
-use Rattle.leases.specs.declared.FreeId.TheVariants as free
-use Rattle.leases.specs.declared.LeaseDecision.{LeaseDecision as Decided}
-use Rattle.leases.specs.declared.LeaseDecision.TheVariants as decided
-use Rattle.leases.specs.Leases.{found_id, free_id, meaning}
+use Rattle.leases.specs.declared.LeaseGrant.{LeaseGrant}
+use Rattle.leases.specs.declared.LeaseGrant.TheVariants as grant
+use Rattle.leases.specs.declared.LeaseRefusal.{LeaseRefusal}
+use Rattle.leases.specs.declared.LeaseRefusal.TheVariants as refusal
+use Rattle.leases.specs.Leases.{free_id, meaning}
 
 -- ---- renewed, or new
 
@@ -33,11 +32,11 @@ module _ (cs ls : List ℕ) (now p : ℕ) (cookie : List ℕ) {old end : ℕ} (s
 -- ---- the four conditions
 
 -- what the search for a free id answers, by its test
-some-found : (t : Bool) (x id : ℕ) → some id ≡ (if t then some x else none) → (t ≡ true) × (x ≡ id)
+some-found : (t : Bool) (x id : ℕ) → Some id ≡ (if t then Some x else None) → (t ≡ true) × (x ≡ id)
 some-found true x id e = (refl, cc e)
 some-found false x id e = absurd (let w : ◌≡◌ {A = ℕ} 0 1 = cc e in omega arith)
 
-none_found : (t : Bool) (x : ℕ) → none ≡ (if t then some x else none) → t ≡ false
+none_found : (t : Bool) (x : ℕ) → None ≡ (if t then Some x else None) → t ≡ false
 none_found true x e = absurd (let w : ◌≡◌ {A = ℕ} 0 1 = cc e in omega arith)
 none_found false x e = refl
 
@@ -57,26 +56,27 @@ module _ (cs ls : List ℕ) (now c : ℕ) (random asked : List ℕ) {held : Bool
       unfolding decide_lease
       cookie_in_use_lem e = rw (← holds, none, ← own, ← spare, ← last, lt-ltb row end room, ← given, ← used, e)
 
-      module _ {found : FreeId} (unused : taken ≡ false) (looked : found_id found ≡ free_id ls now random) where
-        pub no_free_id_lem : found ≡ free.Nothing → no_free_id ≡ decide_lease cs ls now c random asked
+      module _ {found : Option ℕ} (unused : taken ≡ false) (looked : found ≡ free_id ls now random) where
+        pub no_free_id_lem : {e : LeaseRefusal} → found ≡ None → Err e ≡ ok_or found refusal.NoFreeId → meaning (Err e) random ≡ decide_lease cs ls now c random asked
         unfolding decide_lease free_id
-        no_free_id_lem e =
-            let full = none_found (ltb (first_free ls now random) candidate_count) _ (ap found_id (sym e) ∙ looked) in
-            rw (← holds, none, ← own, ← spare, ← last, lt-ltb row end room, ← given, ← used, unused, full)
+        no_free_id_lem {e} n v =
+            let full = none_found (ltb (first_free ls now random) candidate_count) _ (sym n ∙ looked) in
+            let is : e ≡ refusal.NoFreeId = let w : _ = rw n at v in cc w in
+            rw (is, ← holds, none, ← own, ← spare, ← last, lt-ltb row end room, ← given, ← used, unused, full)
 
-        pub renews_or_grants : {id : ℕ} {d : LeaseDecision} → found ≡ free.At id → d ≡ renew_or_grant cs ls now p asked row id (random_cookie random)
+        pub renews_or_grants : {id : ℕ} {d : LeaseDecision} → found ≡ Some id → d ≡ renew_or_grant cs ls now p asked row id (random_cookie random)
             → d ≡ decide_lease cs ls now c random asked
         unfolding decide_lease free_id
         renews_or_grants {id} e result =
-            let some = some-found (ltb (first_free ls now random) candidate_count) _ id (ap found_id (sym e) ∙ looked) in
+            let some = some-found (ltb (first_free ls now random) candidate_count) _ id (sym e ∙ looked) in
             result ∙ rw (← holds, none, ← own, ← spare, ← last, lt-ltb row end room, ← given, ← used, unused, some.0, some.1)
 
 -- ---- what a caller knows of the row
 
-module _ (cs ls : List ℕ) (now c : ℕ) (random cookie : List ℕ) {d : Decided} {row : ℕ} (is : meaning d random ≡ decide_lease cs ls now c random cookie) where
-  pub renewed-row : d ≡ decided.Renewed row → row < end_row (partner_of c)
-  renewed-row e = (is-renewed ls now c random cs cookie row (sym is ∙ ap (λ (x : Decided). meaning x random) e)).own.high
+module _ (cs ls : List ℕ) (now c : ℕ) (random cookie : List ℕ) {d : Result LeaseGrant LeaseRefusal} {row : ℕ} (is : meaning d random ≡ decide_lease cs ls now c random cookie) where
+  pub renewed-row : d ≡ Ok (grant.Renewed row) → row < end_row (partner_of c)
+  renewed-row e = (is-renewed ls now c random cs cookie row (sym is ∙ ap (λ (x : Result LeaseGrant LeaseRefusal). meaning x random) e)).own.high
 
-  pub granted-row : {id : ℕ} → d ≡ decided.Granted row id → row < end_row (partner_of c)
+  pub granted-row : {id : ℕ} → d ≡ Ok (grant.New row id) → row < end_row (partner_of c)
   granted-row {id} e =
-      (is-granted ls now c random cs cookie row id (random_cookie random) (sym is ∙ ap (λ (x : Decided). meaning x random) e)).own.high
+      (is-granted ls now c random cs cookie row id (random_cookie random) (sym is ∙ ap (λ (x : Result LeaseGrant LeaseRefusal). meaning x random) e)).own.high

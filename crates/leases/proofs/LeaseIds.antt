@@ -2,9 +2,9 @@
 use Prim.Native.Nat.{ℕ, ◌+◌, ◌-◌, ◌≤◌, ◌<◌}
 use mathlib.Core.Path.{◌≡◌, refl, ap, ◌∙◌}
 use mathlib.Core.Bool.{Bool, true, not}
-use mathlib.Core.Option.{none, some}
 use mathlib.Core.List.{List}
 use lib.Dec.{ltb}
+use Rattle.std.specs.Prelude.{Some, None}
 use borrow.Author.Tests.{lt-ltb}
 use Rattle.rules.specs.Sizes.{row_count, candidate_count}
 use Rattle.rules.specs.Searches.{first_from}
@@ -38,10 +38,10 @@ module _ (ls : List ℕ) (now : ℕ) (random : List ℕ) {k id : ℕ} (named : i
         first_hit (is_free ls now random) candidate_count inside refl
         (by_row row_count (looked ∙ first-none (live_with_id ls now id) row_count l h))
 
-  pub free-at : first_free ls now random ≡ k → some id ≡ free_id ls now random
+  pub free-at : first_free ls now random ≡ k → Some id ≡ free_id ls now random
   unfolding free_id
   free-at e = rw (e, lt-ltb k candidate_count inside, named)
 
-pub free-none : (ls : List ℕ) (now : ℕ) (random : List ℕ) → first_free ls now random ≡ candidate_count → none ≡ free_id ls now random
+pub free-none : (ls : List ℕ) (now : ℕ) (random : List ℕ) → first_free ls now random ≡ candidate_count → None ≡ free_id ls now random
 unfolding free_id
 free-none ls now random e = rw e

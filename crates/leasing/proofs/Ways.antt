@@ -1,11 +1,11 @@
 -- The ways out of what was decided on a lease request, and of an extension, over plain values. Assumes nothing.
-use Rattle.leases.specs.declared.LeaseDecision.{LeaseDecision as Decided}
+use Rattle.std.specs.Prelude.{Err}
+use Rattle.leases.specs.declared.LeaseRefusal.{LeaseRefusal}
+use Rattle.leases.specs.declared.LeaseRefusal.TheVariants as refusal
 use Prim.Native.Nat.{ℕ, ◌^◌, ◌≤◌, ◌<◌}
-use mathlib.Core.Path.{◌≡◌, refl, ◌∙◌}
+use mathlib.Core.Path.{◌≡◌, refl}
 use mathlib.Core.Bool.{true}
-use mathlib.Core.List.{List, [], ◌∷◌}
-use types.Run.{OneOf, miss}
-use denote.Enum.Declared.{tag_of}
+use mathlib.Core.List.{List}
 use native.Mathlib.Omega.{arith}
 use lib.ListN.{length}
 use borrow.Author.Tests.{lt-ltb, le-ltb}
@@ -18,12 +18,9 @@ use Rattle.rules.specs.Searches.{end_row}
 use Rattle.rules.specs.Leases.{lease_end}
 use Rattle.rules.specs.Plans.{plan_lease, plan_extension, refuse_lease}
 use Rattle.rules.proofs.Terms.{term_most}
-use Rattle.leases.specs.contracts.LeaseDecision.{the_type}
 use Rattle.leases.specs.Leases.{meaning}
-use Rattle.leasing.specs.Asked.{InRows}
-use Rattle.leases.specs.declared.LeaseDecision.TheVariants as decided
 use Rattle.answers.specs.declared.Answer.{Answer}
-use Rattle.answers.specs.Applied.{Handled, handled, applied, coded, replied}
+use Rattle.answers.specs.Applied.{handled, applied, coded, replied}
 
 -- ---- ranges and lengths
 
@@ -56,30 +53,10 @@ module _ (cs ls al reply relay : List ℕ) (time c : ℕ) where
 
 -- ---- decisions
 
--- the cases that refuse
-abbrev pub refusals : List ℕ
-refusals = 0 ∷ 1 ∷ 2 ∷ 3 ∷ []
-
-refusing : (cs ls al : List ℕ) (time c : ℕ) (random : List ℕ) (d : Decided) → OneOf refusals (tag_of the_type d)
-    → refuse_lease (lent cs ls al) ≡ plan_lease (lent cs ls al) time c (meaning d random)
+pub refusing : (cs ls al : List ℕ) (time c : ℕ) (random : List ℕ) (why : LeaseRefusal)
+    → refuse_lease (lent cs ls al) ≡ plan_lease (lent cs ls al) time c (meaning (Err why) random)
 unfolding plan_lease
-refusing cs ls al time c random decided.HoldsLease h = refl
-refusing cs ls al time c random decided.NoSpareRow h = refl
-refusing cs ls al time c random decided.CookieInUse h = refl
-refusing cs ls al time c random decided.NoFreeId h = refl
-refusing cs ls al time c random (decided.Renewed row) h = absurd (miss refusals 4 tt h)
-refusing cs ls al time c random (decided.Granted row id) h = absurd (miss refusals 5 tt h)
-
--- the outcome of what was decided on: x with the values that the match names
-module _ (cs ls al reply relay : List ℕ) (time c : ℕ) (random : List ℕ) (d : Decided) where
-  pub as_decided : {x : Decided} {o : Handled} → d ≡ x → o ≡ applied (plan_lease (lent cs ls al) time c (meaning x random)) reply relay
-      → o ≡ applied (plan_lease (lent cs ls al) time c (meaning d random)) reply relay
-  as_decided e h = h ∙ rw (← e)
-
-  pub as_refused : {o : Handled} → OneOf refusals (tag_of the_type d) → o ≡ applied (refuse_lease (lent cs ls al)) reply relay
-      → o ≡ applied (plan_lease (lent cs ls al) time c (meaning d random)) reply relay
-  as_refused t h = h ∙ rw (refusing cs ls al time c random d t)
-
--- the row of a decision that names one
-pub row_in : (random : List ℕ) (d : Decided) {x : Decided} → d ≡ x → InRows (meaning d random) → InRows (meaning x random)
-row_in random d e h = rw e at h
+refusing cs ls al time c random refusal.HoldsLease = refl
+refusing cs ls al time c random refusal.NoSpareRow = refl
+refusing cs ls al time c random refusal.CookieInUse = refl
+refusing cs ls al time c random refusal.NoFreeId = refl

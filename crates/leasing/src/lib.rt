@@ -11,53 +11,55 @@ ghost use Rattle.answers.specs.Applied.{handled, applied};
 ghost use Rattle.granting.specs.Asked.{Leasable};
 ghost use Rattle.leasing.specs.Asked.{InRows};
 
+use allowance_table::Allowances;
 use answers::Answer;
-use leases::LeaseDecision;
+use leases::{LeaseGrant, LeaseRefusal};
 
 // Type 2.
+#[tactic(auto, using(crate::proofs::Ways::refusing))]
 pub fn lease(
     leases: &mut [u8],
-    allowances: &[u8],
+    allowances: &Allowances,
     time: u64,
     c: u8,
-    decision: LeaseDecision,
+    decision: Result<LeaseGrant, LeaseRefusal>,
     random: &[u8],
     reply: &mut [u8],
 ) -> Answer
-    requires { (Leasable leases.old allowances.now time c reply.old) × (length random.now ≡ random_bytes)
+    requires { (Leasable leases.old time c reply.old) × (length random.now ≡ random_bytes)
         × (InRows (meaning decision random.now)) }
     ensures { (cs relay : List ℕ) → handled result cs leases.new reply.new relay
         ≡ applied (plan_lease (lent cs leases.old allowances.now) time c (meaning decision random.now))
         reply.old relay }
 {
     match decision {
-        LeaseDecision::Renewed { row } => granting::renew(leases, allowances, time, c, reply, row),
-        LeaseDecision::Granted { row, id } => granting::grant(
+        Ok(LeaseGrant::Renewed { row }) => granting::renew(leases, allowances, time, c, reply, row),
+        Ok(LeaseGrant::New { row, id }) => granting::grant(
             leases, allowances, time, c, random, reply, row, id,
         ),
-        _ => granting::refuse(reply),
+        Err(refusal) => granting::refuse(reply),
     }
 }
 
 // Type 4: the row, or the end of the partner's rows.
 pub fn extend(
     leases: &mut [u8],
-    allowances: &[u8],
+    allowances: &Allowances,
     time: u64,
     c: u8,
     row: usize,
     reply: &mut [u8],
 ) -> Answer
-    requires { Leasable leases.old allowances.now time c reply.old }
+    requires { Leasable leases.old time c reply.old }
     ensures { (cs relay : List ℕ) → handled result cs leases.new reply.new relay
         ≡ applied (plan_extension (lent cs leases.old allowances.now) time c row) reply.old relay }
 {
     if row < lease_table::end_row(lease_table::partner_of(c)) {
         let until = lease_terms::lease_end(allowances, time);
         lease_writes::extend(leases, row, until);
-        let sent = svsc_lease_writers::svsc_write_extension_granted(reply, until);
-        return answers::replied(sent.length as u32);
+        let sent = svsc_lease_writers::svsc_write_extension_granted(reply, until).unwrap();
+        return answers::replied(sent as u32);
     }
-    let sent = svsc_lease_writers::svsc_write_extension_refused(reply);
-    answers::replied(sent.length as u32)
+    let sent = svsc_lease_writers::svsc_write_extension_refused(reply).unwrap();
+    answers::replied(sent as u32)
 }

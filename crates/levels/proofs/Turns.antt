@@ -1,9 +1,11 @@
 -- The turns of the loops over levels, and the table that they store. Assumes nothing.
-use Prim.Native.Nat.{ℕ, zero, suc, ◌+◌, ◌-◌, min, ◌<◌}
+use Prim.Native.Nat.{ℕ, zero, suc, ◌+◌, min, ◌<◌}
 use mathlib.Core.Path.{◌≡◌, refl, sym, ap, ◌∙◌}
 use mathlib.Core.List.{List, [], ◌∷◌, ◌++◌, append_assoc, append-nil}
 use native.Mathlib.Numerals.{add-one}
 use native.Mathlib.Omega.{arith}
+use Rattle.std.specs.List.{All}
+use Rattle.std.proofs.lemmas.List.Elements.{All-get_or}
 use lib.ListN.{length, get_or, set, take, drop, length-append}
 use lib.Seq.{append_snoc, take-suc, take-suc-set, take-length, drop-cons, drop-length, drop-set-lt, length-take-le}
 use Rattle.octets.specs.Octets.{big_endian, put}
@@ -31,19 +33,22 @@ fill_end levels p e = rw (e, take-length levels, drop-length levels) (append-nil
 
 -- ---- the seconds that are left
 
-pub one_less : (left : ℕ) (levels : List ℕ) → 0 < left → filled (left - 1) (filled_once levels) ≡ filled left levels
+pub one_less : (left rest : ℕ) (levels : List ℕ) → left ≡ rest + 1 → filled rest (filled_once levels) ≡ filled left levels
 unfolding filled
-one_less zero levels h = absurd (omega arith)
-one_less (suc left) levels h = let e : suc left - 1 ≡ left = omega arith in rw e
+one_less left rest levels e = rw (e, add-one rest)
 
 pub none_left : (left : ℕ) (levels : List ℕ) → left ≡ 0 → filled left levels ≡ levels
 unfolding filled
 none_left left levels e = rw e
 
 -- of one level
-pub level_turn : (left level next : ℕ) → 0 < left → next ≡ min capacity (level + refill_rate) → filled (left - 1) (next ∷ []) ≡ filled left (level ∷ [])
+pub level_turn : (left rest level next : ℕ) → left ≡ rest + 1 → next ≡ min capacity (level + refill_rate) → filled rest (next ∷ []) ≡ filled left (level ∷ [])
 unfolding filled_once
-level_turn left level next h e = rw e (one_less left (level ∷ []) h)
+level_turn left rest level next h e = rw e (one_less left rest (level ∷ []) h)
+
+-- full ones stay
+pub all-full : (left : ℕ) (levels : List ℕ) → All (λ level. level ≡ capacity) levels → filled left levels ≡ levels
+all-full left levels full = full-stays left levels (λ p h. All-get_or (λ level. level ≡ capacity) levels p 0 h full)
 
 pub level-full : (left level : ℕ) → level ≡ capacity → filled left (level ∷ []) ≡ level ∷ []
 level-full left level e = full-stays left (level ∷ []) at
@@ -76,10 +81,6 @@ store_turn al levels before after time p h e f =
     rw (f, e, add-one p, take-suc levels p 0 h, records-append time (take p levels) (get_or levels p 0 ∷ []), append-nil (bucket_bytes b))
     (ap (λ (k : ℕ). put (put al 0 (level_records time (take p levels))) k (bucket_bytes b)) from
     ∙ put-behind al 0 (allowance_at p) (level_records time (take p levels)) (bucket_bytes b) len)
-
-pub store_end : (al levels after : List ℕ) (time p : ℕ) → p ≡ length levels → after ≡ put al 0 (level_records time (take p levels))
-    → after ≡ put al 0 (level_records time levels)
-store_end al levels after time p e f = rw (f, e, take-length levels)
 
 -- behind them the term and the clock
 pub table_stored : (al levels a₁ a₂ a₃ : List ℕ) (time term kept : ℕ) → length al ≡ allowances_size → length levels ≡ partners → kept ≡ named_term term

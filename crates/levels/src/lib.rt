@@ -1,7 +1,7 @@
 // What the plain replay keeps: every partner's level at the latest done reading, filled second by second, and the table that is made of them.
 #![tactic(auto)]
 
-ghost use Rattle.std.specs.Prelude.{◌≡◌, ◌↔◌, true, [], ◌∷◌, ℕ, ◌+◌, ◌<◌, min, length, get_or};
+ghost use Rattle.std.specs.Prelude.{◌≡◌, ◌↔◌, [], ◌∷◌, ◌+◌, min, length, IsTrue, All};
 ghost use Rattle.octets.specs.Octets.{put};
 ghost use Rattle.allowance.specs.Bucket.{capacity, refill_rate};
 ghost use Rattle.rules.specs.Sizes.{partners, allowances_size};
@@ -11,10 +11,7 @@ ghost use Rattle.journal.specs.Plain.{filled_once, filled, level_records, level_
 fn filled_level(level: u64) -> u64
     ensures { result ≡ min capacity (level + refill_rate) }
 {
-    if level < allowance::CAPACITY - allowance::REFILL_RATE {
-        return level + allowance::REFILL_RATE;
-    }
-    allowance::CAPACITY
+    level.min(allowance::CAPACITY - allowance::REFILL_RATE) + allowance::REFILL_RATE
 }
 
 // A level so many seconds later: once for each second, until it is full.
@@ -22,13 +19,11 @@ pub fn level_after(level: u64, seconds: u64) -> u64
     ensures { filled seconds (level ∷ []) ≡ result ∷ [] }
 {
     let mut have = level;
-    let mut left = seconds;
-    while left > 0 {
+    for _ in 0..seconds {
         if have == allowance::CAPACITY {
             return have;
         }
         have = filled_level(have);
-        left -= 1;
     }
     have
 }
@@ -37,24 +32,15 @@ pub fn level_after(level: u64, seconds: u64) -> u64
 fn fill(levels: &mut [u64])
     ensures { levels.new ≡ filled_once levels.old }
 {
-    let mut p = 0;
-    while p < levels.len() {
+    for p in 0..levels.len() {
         levels[p] = filled_level(levels[p]);
-        p += 1;
     }
 }
 
 fn are_full(levels: &[u64]) -> bool
-    ensures { (result ≡ true) ↔ ((p : ℕ) → p < length levels.now → get_or levels.now p 0 ≡ capacity) }
+    ensures { IsTrue result ↔ All (λ level. level ≡ capacity) levels.now }
 {
-    let mut p = 0;
-    while p < levels.len() {
-        if levels[p] != allowance::CAPACITY {
-            return false;
-        }
-        p += 1;
-    }
-    true
+    levels.iter().all(|level| *level == allowance::CAPACITY)
 }
 
 // All levels so many seconds later: once for each second, until all are full. A further second changes nothing then (journal's law full-stays), and a
@@ -62,35 +48,31 @@ fn are_full(levels: &[u64]) -> bool
 pub fn fill_for(levels: &mut [u64], seconds: u64)
     ensures { levels.new ≡ filled seconds levels.old }
 {
-    let mut left = seconds;
-    while left > 0 {
-        if are_full(levels) {
+    for _ in 0..seconds {
+        let full = are_full(levels);
+        if full {
             return;
         }
         fill(levels);
-        left -= 1;
     }
 }
 
 // Stores a record for each level, all with one time.
-fn store_levels(allowances: &mut [u8], levels: &[u64], clock: u64)
-    requires { length levels.now ≡ partners }
+fn store_levels(allowances: &mut [u8], levels: &[u64; rules::PARTNERS], clock: u64)
     ensures { allowances.new ≡ put allowances.old 0 (level_records clock levels.now) }
 {
-    let mut p = 0;
-    while p < levels.len() {
+    for p in 0..levels.len() {
         allowance_table::store(allowances, p, levels[p], clock);
-        p += 1;
     }
 }
 
 // The whole table: the levels, and in the ninth record the term and the clock.
-pub fn store_table(allowances: &mut [u8], levels: &[u64], clock: u64, term: u64)
-    requires { (length allowances.old ≡ allowances_size) × (length levels.now ≡ partners) }
+pub fn store_table(allowances: &mut [u8], levels: &[u64; rules::PARTNERS], clock: u64, term: u64)
+    requires { length allowances.old ≡ allowances_size }
     ensures { allowances.new ≡ level_table term (record { clock = clock; levels = levels.now }) }
 {
     let kept = lease_terms::named_term(term);
     store_levels(allowances, levels, clock);
-    octet_stores::write64(allowances, rules::TERM_AT, kept);
+    octet_stores::write::<8>(allowances, rules::TERM_AT, kept);
     allowance_table::set_clock(allowances, clock);
 }

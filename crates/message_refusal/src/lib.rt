@@ -1,82 +1,78 @@
 // The checks of a message in their order, what it will do, and its price. They only read, and of a buffer they get the length.
 #![tactic(auto)]
 
-ghost use Rattle.std.specs.Prelude.{◌≡◌, List, ℕ, ◌<◌, ltb, length, if◌then◌else◌};
-ghost use Rattle.allowance.specs.Bucket.{level_now};
-ghost use Rattle.rules.specs.Sizes.{connection_count, allowances_size};
-ghost use Rattle.rules.specs.Tables.{lent, partner_of, bucket_of};
+ghost use Rattle.std.specs.Prelude.{◌≡◌, List, ℕ, length, IfOk};
+ghost use Rattle.rules.specs.Tables.{lent};
 ghost use Rattle.rules.specs.Calls.{message};
-ghost use Rattle.message_refusal.specs.Own.{own_checks, session_check, found_by_eight};
-ghost use Rattle.message_refusal.specs.Assessed.{assessed_as, stopped_by, assessed};
+ghost use Rattle.rules.specs.Checks.{precheck};
+ghost use Rattle.refusal_numbers.specs.Numbers.{answer_number};
+ghost use Rattle.message_refusal.specs.Own.{own_checks, session_check, found};
+ghost use Rattle.message_refusal.specs.Assessed.{assessed_as, assessed};
 
+use allowance_table::Allowances;
+use connection_table::ConnectionState;
 use decisions::Decision;
+use lease_table::Leases;
+use refusal_numbers::Refusal;
 
-// What is known of a message before anything is written: the number of the first check that applies, or 0; its price and what it will
-// do, where checks 1 to 8 pass, so also where check 9 stops it.
+// What is known of a message that passes checks 1 to 8, before anything is written: its connection, its price, what it will do, and whether
+// check 9 stops it.
 #[derive(Clone, Copy)]
 pub struct Assessment {
-    pub number: u32,
+    pub connection: u8,
     pub price: u64,
     pub decision: Decision,
+    pub last: Result<(), Refusal>,
 }
 
-// What checks 1 to 8 find: the number of the first that applies, or 0; and the connection that check 8 found in session with the caller, or
-// 255. For types 9 and 11 the session is looked up here and nowhere else: whoever needs the other connection is handed this.
+// A message that passes checks 1 to 8: its connection, and the one that check 8 found in session with it, if its type needs one. For types 9
+// and 11 the session is looked up here and nowhere else: whoever needs the other connection is handed this.
 #[derive(Clone, Copy)]
-struct Found {
-    number: u32,
-    peer: u8,
+struct Passed {
+    c: u8,
+    peer: Option<u8>,
 }
 
 // Checks 4 to 7.
-fn own_refusal(
+fn own_checks(
     connections: &[u8],
     c: u8,
     m: &[u8],
     random: &[u8],
     reply_length: usize,
     relay_length: usize,
-) -> u32
+) -> Result<(), Refusal>
     ensures { (time : ℕ) (reply relay : List ℕ) → length reply ≡ reply_length → length relay ≡ relay_length
-        → result ≡ own_checks connections.now (message time c m.now random.now reply relay) }
+        → answer_number result ≡ own_checks connections.now (message time c m.now random.now reply relay) }
 {
     let state = connection_table::state(connections, c);
-    if state == rules::CLOSED {
-        return 4;
+    if state == ConnectionState::Closed {
+        return Err(Refusal::WrongState);
     }
     if checks::are_wrong_lengths(m, random, reply_length, relay_length) {
-        return 5;
+        return Err(Refusal::WrongLengths);
     }
     if !svsc_reader::from_peer(m) {
-        return 6;
+        return Err(Refusal::Malformed);
     }
-    if !checks::is_permitted(state, octets::byte(m, 0)) {
-        return 7;
+    if !checks::is_permitted(state.number(), octets::byte(m, 0)) {
+        return Err(Refusal::NotPermitted);
     }
-    0
+    Ok(())
 }
 
 // Check 8: the one look-up, of a type that needs a session.
-fn session(connections: &[u8], c: u8, kind: u8) -> Found
+fn session(connections: &[u8], c: u8, kind: u8) -> Result<Option<u8>, Refusal>
     ensures { result ≡ session_check connections.now c kind }
 {
     if !checks::needs_session(kind) {
-        return Found {
-            number: 0,
-            peer: rules::NOBODY,
-        };
+        return Ok(None);
     }
     let peer = session_records::peer(connections, c);
     if !session_records::in_session(connections, c, peer) {
-        return Found {
-            number: 8,
-            peer: rules::NOBODY,
-        };
+        return Err(Refusal::NoSession);
     }
-    Found {
-        number: 0,
-        peer: peer,
-    }
+    Ok(Some(peer))
 }
 
 // Checks 1 to 8.
@@ -90,52 +86,20 @@ fn first_eight(
     random: &[u8],
     reply_length: usize,
     relay_length: usize,
-) -> Found
-    ensures { (reply relay : List ℕ) → length reply ≡ reply_length → length relay ≡ relay_length
-        → result ≡ found_by_eight (lent connections.now leases.now allowances.now) time connection
-        m.now random.now reply relay }
+) -> Result<Passed, Refusal>
+    ensures number { (reply relay : List ℕ) → length reply ≡ reply_length → length relay ≡ relay_length
+        → answer_number result ≡ precheck (lent connections.now leases.now allowances.now)
+        (message time connection m.now random.now reply relay) }
+    ensures same { IfOk result (λ p. p.c ≡ connection) }
+    ensures peer { IfOk result (λ p. p.peer ≡ found connections.now connection m.now) }
 {
-    let first = refusals::first_three(connections, leases, allowances, time, connection);
-    if first != 0 {
-        return Found {
-            number: first,
-            peer: rules::NOBODY,
-        };
-    }
-    let c = connection as u8;
-    let own = own_refusal(connections, c, m, random, reply_length, relay_length);
-    if own != 0 {
-        return Found {
-            number: own,
-            peer: rules::NOBODY,
-        };
-    }
-    session(connections, c, octets::byte(m, 0))
+    let c = refusals::first_three(connections, leases, allowances, time, connection)?;
+    own_checks(connections, c, m, random, reply_length, relay_length)?;
+    let peer = session(connections, c, octets::byte(m, 0))?;
+    Ok(Passed { c, peer })
 }
 
-// Stopped by one of checks 1 to 8: no price, and nothing decided.
-fn stopped(number: u32) -> Assessment
-    ensures { (m random : List ℕ) → assessed_as result m random ≡ stopped_by number }
-{
-    Assessment {
-        number: number,
-        price: 0,
-        decision: Decision::Nothing,
-    }
-}
-
-// Check 9: the number, 9 or 0.
-fn last(allowances: &[u8], time: u64, c: u8, price: u64) -> u32
-    requires { (length allowances.now ≡ allowances_size) × (c < connection_count) }
-    ensures { result ≡ (if ltb (level_now (bucket_of allowances.now (partner_of c)) time) price then 9 else 0) }
-{
-    if allowance_table::level(allowances, lease_table::partner_of(c), time) < price {
-        return 9;
-    }
-    0
-}
-
-// All nine: checks 1 to 8, then the decision, then its price, then check 9.
+// Checks 1 to 8, then the decision, then its price, then check 9.
 pub fn assess(
     connections: &[u8],
     leases: &[u8],
@@ -146,13 +110,17 @@ pub fn assess(
     random: &[u8],
     reply_length: usize,
     relay_length: usize,
-) -> Assessment
-    ensures { (reply relay : List ℕ) → length reply ≡ reply_length → length relay ≡ relay_length
+) -> Result<Assessment, Refusal>
+    ensures eight { (reply relay : List ℕ) → length reply ≡ reply_length → length relay ≡ relay_length
+        → answer_number result ≡ precheck (lent connections.now leases.now allowances.now)
+        (message time connection m.now random.now reply relay) }
+    ensures same { IfOk result (λ a. a.connection ≡ connection) }
+    ensures all { (reply relay : List ℕ) → length reply ≡ reply_length → length relay ≡ relay_length
         → assessed_as result m.now random.now
         ≡ assessed (lent connections.now leases.now allowances.now) time connection
         m.now random.now reply relay }
 {
-    let eight = first_eight(
+    let passed = first_eight(
         connections,
         leases,
         allowances,
@@ -162,16 +130,16 @@ pub fn assess(
         random,
         reply_length,
         relay_length,
-    );
-    if eight.number != 0 {
-        return stopped(eight.number);
-    }
-    let c = connection as u8;
-    let decision = decisions::decide(connections, leases, time, c, eight.peer, m, random);
+    )?;
+    let c = passed.c;
+    let other = passed.peer.unwrap_or(rules::NOBODY);
+    let leases = Leases::new(leases);
+    let decision = decisions::decide(connections, &leases, time, c, other, m, random);
     let price = decisions::price(decision, c, m);
-    Assessment {
-        number: last(allowances, time, c, price),
+    Ok(Assessment {
+        connection: c,
         price,
         decision,
-    }
+        last: refusals::last(&Allowances::new(allowances), time, c, price),
+    })
 }

@@ -4,52 +4,28 @@
 ghost use Rattle.std.specs.Prelude.{◌≡◌, [], ◌∷◌, ◌-◌, ◌≤◌, min, length, replicate};
 ghost use Rattle.octets.specs.Octets.{put, big_endian};
 
-// How many of n bytes fit from a place on.
-fn fitting(length: usize, at: usize, n: usize) -> usize
-    ensures { result ≡ min (length - at) n }
-{
-    if length <= at {
-        return 0;
-    }
-    if length - at < n {
-        return length - at;
-    }
-    n
-}
-
-// Copies s to the bytes from a place on. The room is asked for, so that nothing but the copy is left to the loop.
-pub fn store(t: &mut [u8], at: usize, s: &[u8])
-    requires { length s.now ≤ length t.old - at }
-    ensures { t.new ≡ put t.old at s.now }
-{
-    let mut i = 0;
-    while i < s.len() {
-        t[at + i] = s[i];
-        i += 1;
-    }
-}
-
-// The same of any bytes and any place; what would fall past the end is dropped.
+// Copies s to the bytes from a place on; what would fall past the end is dropped. A loop, since most copies are of a few bytes of an array:
+// LLVM unrolls it, while `copy_from_slice` asks whether the slices overlap and keeps the array (measured: a frame's header, 11 ns and not 5).
 pub fn copy(t: &mut [u8], at: usize, s: &[u8])
     ensures { t.new ≡ put t.old at s.now }
 {
-    let n = fitting(t.len(), at, s.len());
-    store(t, at, &s[0..n]);
+    let n = s.len().min(t.len().saturating_sub(at));
+    for i in 0..n {
+        t[at + i] = s[i];
+    }
 }
 
 // Stores v in the n bytes from a place on; what would fall past the end is dropped.
 pub fn fill(t: &mut [u8], at: usize, n: usize, v: u8)
     ensures { t.new ≡ put t.old at (replicate n v) }
 {
-    let m = fitting(t.len(), at, n);
-    let mut i = 0;
-    while i < m {
-        t[at + i] = v;
-        i += 1;
+    if at < t.len() {
+        let m = n.min(t.len() - at);
+        t[at..at + m].fill(v);
     }
 }
 
-// Stores one byte.
+// Stores one byte. By itself, since a byte takes no loop and no division.
 pub fn write8(t: &mut [u8], at: usize, v: u8)
     ensures { t.new ≡ put t.old at (v ∷ []) }
 {
@@ -58,26 +34,11 @@ pub fn write8(t: &mut [u8], at: usize, v: u8)
     }
 }
 
-// Stores the four bytes of a number.
-pub fn write32(t: &mut [u8], at: usize, v: u32)
-    ensures { t.new ≡ put t.old at (big_endian 4 v) }
+// Stores the N lowest bytes of a number.
+pub fn write<const N: usize>(t: &mut [u8], at: usize, v: u64)
+    requires { N ≤ 8 }
+    ensures { t.new ≡ put t.old at (big_endian N v) }
 {
-    let bytes = octets::bytes32(v);
-    copy(t, at, &bytes);
-}
-
-// Stores the five lowest bytes of a number.
-pub fn write40(t: &mut [u8], at: usize, v: u64)
-    ensures { t.new ≡ put t.old at (big_endian 5 v) }
-{
-    let bytes = octets::bytes40(v);
-    copy(t, at, &bytes);
-}
-
-// Stores the eight bytes of a number.
-pub fn write64(t: &mut [u8], at: usize, v: u64)
-    ensures { t.new ≡ put t.old at (big_endian 8 v) }
-{
-    let bytes = octets::bytes64(v);
+    let bytes: [u8; N] = octets::bytes(v);
     copy(t, at, &bytes);
 }

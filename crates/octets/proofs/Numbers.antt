@@ -1,17 +1,20 @@
 -- Numbers as bytes, most significant first: reading, writing, and that each undoes the other, at every width. Assumes nothing.
-use Prim.Native.Nat.{ℕ, zero, suc, ◌+◌, ◌*◌, ◌/◌, ◌%◌, ◌^◌, ◌≤◌, ◌<◌}
+use Prim.Native.Nat.{ℕ, zero, suc, ◌+◌, ◌-◌, ◌*◌, ◌/◌, ◌%◌, ◌^◌, ◌≤◌, ◌<◌}
 use mathlib.Core.Path.{◌≡◌, refl, sym, ap, ◌∙◌}
 use mathlib.Core.Bool.{true}
-use mathlib.Core.List.{List, [], ◌∷◌, ◌++◌}
-use native.Mathlib.Nat.{add_assoc, add-mul, mul_assoc, zero-add, pow-succ', mod-eq_of_lt, one-le-pow, mul-add-div_right, mul-add-mod_self_right}
+use mathlib.Core.List.{List, [], ◌∷◌, ◌++◌, append_assoc}
+use native.Mathlib.Numerals.{add-one}
+use native.Mathlib.Nat.{add_assoc, add-mul, mul_assoc, zero-add, pow-suc, pow-succ', pow-le-pow_right, mod-eq_of_lt, one-le-pow, mul-add-div_right, mul-add-mod_self_right}
 use native.Mathlib.Omega.{arith}
 use lib.Arith.{mod-mul, digits_div, digits_lt}
 use lib.Dec.{lit<}
 use lib.Pow.{are_bytes}
-use lib.ListN.{length, get_or}
+use lib.ListN.{length, get_or, set, replicate, length-replicate}
+use lib.Seq.{set-append_seam}
+use Rattle.std.proofs.lemmas.Grind.{replicate_next}
 use Rattle.octets.specs.Octets.{number_from, number, big_endian, part, number_at}
 use Rattle.octets.proofs.Tests.{head_byte, tail_bytes, bytes-part}
-use Rattle.octets.proofs.Parts.{length_part, part_join, part-one, part-four}
+use Rattle.octets.proofs.Parts.{length_part, part_join, part-one}
 
 -- ---- reading
 
@@ -32,22 +35,21 @@ number_append : (xs ys : List ℕ) → number (xs ++ ys) ≡ number xs * 256 ^ l
 unfolding number
 number_append xs ys = number_from-append 0 xs ys ∙ number_from_shift (number_from 0 xs) ys
 
-pub number_at-four : (xs : List ℕ) (at : ℕ) → at + 4 ≤ length xs
-    → number_at xs at 4 ≡ ((get_or xs at 0 * 256 + get_or xs (at + 1) 0) * 256 + get_or xs (at + 2) 0) * 256 + get_or xs (at + 3) 0
+-- one byte more
+pub number_at-next : (xs : List ℕ) (at n : ℕ) → at + n < length xs → number_at xs at n * 256 + get_or xs (at + n) 0 ≡ number_at xs at (n + 1)
 unfolding number_at number number_from
-number_at-four xs at h = rw (part-four xs at h) (omega arith)
+number_at-next xs at n h =
+    sym (number_from-append 0 (part xs at n) (get_or xs (at + n) 0 ∷ []))
+    ∙ ap number (ap (λ (l : List ℕ). part xs at n ++ l) (sym (part-one xs (at + n) h)) ∙ part_join xs at n 1)
 
-pub number_at-five : (xs : List ℕ) (at : ℕ) → at + 5 ≤ length xs → number_at xs at 5 ≡ get_or xs at 0 * 4294967296 + number_at xs (at + 1) 4
-unfolding number_at number number_from
-number_at-five xs at h =
-    ap number (sym (part_join xs at 1 4))
-    ∙ number_append (part xs at 1) (part xs (at + 1) 4)
-    ∙ rw (length_part xs (at + 1) 4 (omega arith), part-one xs at (omega arith)) (omega arith)
+pub next_lt : (v x n : ℕ) → v < 256 ^ n → x < 256 → v * 256 + x < 256 ^ (n + 1)
+next_lt v x n h l = rw (add-one, pow-suc 256 n) (omega (arith, h, l))
 
-pub number_at-eight : (xs : List ℕ) (at : ℕ) → at + 8 ≤ length xs → number_at xs at 8 ≡ number_at xs at 4 * 4294967296 + number_at xs (at + 4) 4
-unfolding number_at
-number_at-eight xs at h =
-    ap number (sym (part_join xs at 4 4)) ∙ number_append (part xs at 4) (part xs (at + 4) 4) ∙ rw (length_part xs (at + 4) 4 (omega arith))
+pub within_eight : (v x n : ℕ) → v < 256 ^ n → x < 256 → n < 8 → v * 256 + x < 256 ^ 8
+within_eight v x n h l e =
+    let fits : n + 1 ≤ 8 = omega (arith, e) in
+    let up : 256 ^ (n + 1) ≤ 256 ^ 8 = pow-le-pow_right (lit< tt) fits in
+    omega (arith, next_lt v x n h l, up)
 
 -- n bytes spell a number below 256 ^ n
 pub number_lt : (xs : List ℕ) → are_bytes xs ≡ true → number xs < 256 ^ length xs
@@ -70,6 +72,22 @@ length-big_endian (suc n) v = ap suc (length-big_endian n _)
 
 pow256-pos : (n : ℕ) → zero < 256 ^ n
 pow256-pos n = one-le-pow n 256 (lit< tt)
+
+-- one byte more, before those that are there
+pub big_endian-next : (n i v : ℕ) → i < n
+    → set (replicate (n - i) 0 ++ big_endian i v) (n - 1 - i) (v / 256 ^ i % 256) ≡ replicate (n - (i + 1)) 0 ++ big_endian (i + 1) v
+unfolding big_endian
+big_endian-next n i v h =
+    let m = n - (i + 1) in
+    let more : n - i ≡ m + 1 = omega (arith, h) in
+    let at : n - 1 - i ≡ m = omega (arith, h) in
+    let split : replicate (n - i) 0 ++ big_endian i v ≡ replicate m 0 ++ 0 ∷ big_endian i v =
+    rw (more, replicate_next {X = ℕ} m 0) (append_assoc (replicate m 0) (0 ∷ []) (big_endian i v)) in
+    let size : length (replicate {A = ℕ} m 0) ≡ m = length-replicate m 0 in
+    rw (split, at)
+    (ap (λ (k : ℕ). set (replicate m 0 ++ 0 ∷ big_endian i v) k (v / 256 ^ i % 256)) (sym size)
+    ∙ set-append_seam (replicate m 0) 0 (big_endian i v) (v / 256 ^ i % 256)
+    ∙ ap (λ (l : List ℕ). replicate m 0 ++ l) (ap (λ (k : ℕ). big_endian k v) (sym (add-one i))))
 
 -- ---- both ways
 

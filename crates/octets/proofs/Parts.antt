@@ -30,10 +30,6 @@ part-two xs at h = sym (part_join xs at 1 1) ∙ ap₂ ◌++◌ (part-one xs at 
 pub part-three : (xs : List ℕ) (at : ℕ) → at + 3 ≤ length xs → part xs at 3 ≡ get_or xs at 0 ∷ get_or xs (at + 1) 0 ∷ get_or xs (at + 2) 0 ∷ []
 part-three xs at h = sym (part_join xs at 2 1) ∙ ap₂ ◌++◌ (part-two xs at (omega arith)) (part-one xs (at + 2) (omega arith))
 
-pub part-four : (xs : List ℕ) (at : ℕ) → at + 4 ≤ length xs
-    → part xs at 4 ≡ get_or xs at 0 ∷ get_or xs (at + 1) 0 ∷ get_or xs (at + 2) 0 ∷ get_or xs (at + 3) 0 ∷ []
-part-four xs at h = sym (part_join xs at 3 1) ∙ ap₂ ◌++◌ (part-three xs at (omega arith)) (part-one xs (at + 3) (omega arith))
-
 -- a part that reaches the end
 pub part_end : (xs : List ℕ) (at n : ℕ) → length xs ≤ at + n → part xs at n ≡ drop at xs
 unfolding part
@@ -49,12 +45,3 @@ pub byte_past : (xs : List ℕ) (at : ℕ) → length xs ≤ at → get_or xs at
 byte_past [] at h = refl
 byte_past (x ∷ xs) zero h = absurd (omega arith)
 byte_past (x ∷ xs) (suc at) h = byte_past xs at (omega arith)
-
--- the rest of a list, whole or cut to n bytes, as a part
-pub whole_part : (xs r : List ℕ) (at n : ℕ) → r ≡ drop at xs → length r ≤ n → r ≡ part xs at n
-unfolding part
-whole_part xs r at n e h = rw (← e) (sym (take_all n r h))
-
-pub first_part : (xs r : List ℕ) (at n : ℕ) → r ≡ drop at xs → take n r ≡ part xs at n
-unfolding part
-first_part xs r at n e = ap (take n) e

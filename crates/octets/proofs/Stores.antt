@@ -7,7 +7,8 @@ use native.Mathlib.Nat.{add-zero}
 use native.Mathlib.Numerals.{add-one}
 use native.Mathlib.Omega.{arith}
 use lib.ListN.{length, get_or, take, drop, set, replicate, length-replicate, take-append-drop, drop_of_length-le, replicate-append-replicate}
-use lib.Seq.{sets-eq, length-sets, set_out, take_all, take-suc, length-take-le, take_at, drop_at, take-set-le, drop-set-lt, drop-set-add}
+use lib.Seq.{sets-eq, length-sets, set_out, take_all, take-suc, length-take-le, take_at, drop_at, take-set-le, drop-set-lt, drop-set-add, drop-drop}
+use borrow.Rule.Slice.PartMut.{put_mid}
 use Rattle.octets.specs.Octets.{number, big_endian, part, number_at, put}
 use Rattle.octets.proofs.Tests.{le-or-lt}
 use Rattle.octets.proofs.Numbers.{length-big_endian, number-big_endian}
@@ -20,6 +21,11 @@ length-put xs at vs = length-sets xs _ vs
 pub put_splice : (xs : List ℕ) (at : ℕ) (vs : List ℕ) → at + length vs ≤ length xs → put xs at vs ≡ take at xs ++ (vs ++ drop (at + length vs) xs)
 unfolding put
 put_splice xs at vs h = sets-eq vs xs at h ∙ append_assoc (take at xs) vs (drop (at + length vs) xs)
+
+-- what a write to `xs[at..at + length vs]` leaves
+pub put_mid-put : (xs : List ℕ) (at k : ℕ) (vs : List ℕ) → k ≡ length vs → at + k ≤ length xs → put_mid at k xs vs ≡ put xs at vs
+put_mid-put xs at k vs e h =
+    rw e (ap (λ (l : List ℕ). take at xs ++ (vs ++ l)) (drop-drop (length vs) at xs) ∙ sym (put_splice xs at vs (omega (arith, e, h))))
 
 -- one run behind another
 pub put-append : (xs : List ℕ) (at : ℕ) (us vs : List ℕ) → put (put xs at us) (at + length us) vs ≡ put xs at (us ++ vs)
@@ -39,7 +45,7 @@ put_whole xs vs e =
     put_splice xs 0 vs (omega arith) ∙ ap (λ (l : List ℕ). vs ++ l) (drop_of_length-le xs past) ∙ append-nil vs
 
 -- past the end nothing is stored, so a run may be cut where the list ends
-put_past : (xs : List ℕ) (at : ℕ) (vs : List ℕ) → length xs ≤ at → put xs at vs ≡ xs
+pub put_past : (xs : List ℕ) (at : ℕ) (vs : List ℕ) → length xs ≤ at → put xs at vs ≡ xs
 unfolding put
 put_past xs at [] h = refl
 put_past xs at (v ∷ vs) h = rw (set_out xs at v h) (put_past xs (suc at) vs (omega arith))
@@ -66,6 +72,10 @@ pub put-none : (xs : List ℕ) (at : ℕ) → put xs at [] ≡ xs
 unfolding put
 put-none xs at = refl
 
+pub put_empty : (xs : List ℕ) (at : ℕ) (vs : List ℕ) → length vs ≡ 0 → put xs at vs ≡ xs
+put_empty xs at [] h = put-none xs at
+put_empty xs at (v ∷ vs) h = absurd (omega (arith, h))
+
 pub put_one : (xs : List ℕ) (at v : ℕ) → put xs at (v ∷ []) ≡ set xs at v
 unfolding put
 put_one xs at v = refl
@@ -75,9 +85,6 @@ pub put-take_more : (xs : List ℕ) (at : ℕ) (vs : List ℕ) (n : ℕ) → n <
 put-take_more xs at vs n h =
     let len : length (take n vs) ≡ n = length-take-le n vs (omega arith) in
     rw (add-one, take-suc vs n 0, put_snoc, len)
-
-pub put-replicate_more : (xs : List ℕ) (at n v : ℕ) → put xs at (replicate (n + 1) v) ≡ set (put xs at (replicate n v)) (at + n) v
-put-replicate_more xs at n v = rw (← replicate-append-replicate n 1 v, put_snoc, length-replicate n v)
 
 pub put-replicate-cut : (xs : List ℕ) (at n v m : ℕ) → m ≡ min (length xs - at) n → put xs at (replicate m v) ≡ put xs at (replicate n v)
 put-replicate-cut xs at n v m e =

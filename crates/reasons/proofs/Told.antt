@@ -7,19 +7,19 @@ use lib.IntN.{ℤ, pos}
 use Rattle.rules.specs.Leases.{LeaseDecision}
 use Rattle.rules.specs.Sessions.{EstablishDecision}
 use Rattle.rules.specs.Reasons.{Decided, undecided, of_lease, of_establish, condition_of, status_of, Reason}
-use Rattle.reasons.specs.Coded.{request_of, condition_number, charged_of, headroom_of, coded, Tells}
+use Rattle.reasons.specs.Coded.{named, request_of, condition_number, charged_of, headroom_of, coded, Tells}
 
-is-lease : (x : Decided) → (request_of x ≡ 1) ↔ ((d : LeaseDecision) × (x ≡ of_lease d) × (condition_number x ≡ condition_of d))
+is-lease : (x : Decided) → (request_of (named x) ≡ 1) ↔ ((d : LeaseDecision) × (x ≡ of_lease d) × (condition_number (named x) ≡ condition_of d))
 is-lease undecided = ((λ e. absurd (omega arith)), (λ q. cc q.1))
 is-lease (of_lease d) = ((λ e. (d, refl, refl)), (λ q. refl))
 is-lease (of_establish d) = ((λ e. absurd (omega arith)), (λ q. cc q.1))
 
-is-establish : (x : Decided) → (request_of x ≡ 2) ↔ ((d : EstablishDecision) × (x ≡ of_establish d) × (condition_number x ≡ status_of d))
+is-establish : (x : Decided) → (request_of (named x) ≡ 2) ↔ ((d : EstablishDecision) × (x ≡ of_establish d) × (condition_number (named x) ≡ status_of d))
 is-establish undecided = ((λ e. absurd (omega arith)), (λ q. cc q.1))
 is-establish (of_lease d) = ((λ e. absurd (omega arith)), (λ q. cc q.1))
 is-establish (of_establish d) = ((λ e. (d, refl, refl)), (λ q. refl))
 
-is-other : (x : Decided) → (request_of x ≡ 0) ↔ ((x ≡ undecided) × (condition_number x ≡ 0))
+is-other : (x : Decided) → (request_of (named x) ≡ 0) ↔ ((x ≡ undecided) × (condition_number (named x) ≡ 0))
 is-other undecided = ((λ e. (refl, refl)), (λ q. refl))
 is-other (of_lease d) = ((λ e. absurd (omega arith)), (λ q. cc q.0))
 is-other (of_establish d) = ((λ e. absurd (omega arith)), (λ q. cc q.0))

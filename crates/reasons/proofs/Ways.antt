@@ -17,55 +17,24 @@ use Rattle.rules.specs.Checks.{first_eight, precheck, check}
 use Rattle.rules.specs.Reasons.{undecided, asked, decided, headroom, explain}
 use Rattle.rules.proofs.Checks.{at_most, check-verdict}
 use Rattle.reasons.specs.declared.Named.{Named}
+use Rattle.reasons.specs.declared.Named.TheVariants as named_by
 use Rattle.reasons.specs.Coded.{named, reason_of, coded}
 
 -- a call that asks for nothing to be decided
 pub nothing_asked_lem : (tables : Tables) (call : Call) (k : ℕ) → asked tables call ≡ undecided
-    → record { request = 0; condition = 0 } ≡ named (if eqb k 0 then asked tables call else undecided)
+    → named_by.Nothing ≡ named (if eqb k 0 then asked tables call else undecided)
 nothing_asked_lem tables call k h = rw h (go (eqb k 0))
   where
-    go : (t : Bool) → record { request = 0; condition = 0 } ≡ named (if t then undecided else undecided)
+    go : (t : Bool) → named_by.Nothing ≡ named (if t then undecided else undecided)
     go true = refl
     go false = refl
 
 -- ---- reasons
 
--- a number that is neither 0 nor 9, as the code tests it
-abbrev pub stops : ℕ → Bool
-stops k = not (eqb k 0) && not (eqb k 9)
-
-by-verdict : (k n : ℕ) (b : Bool) (level price : ℕ) → k ≡ verdict n b level price
-    → (stops k ≡ true → eqb n 0 ≡ false) × (stops k ≡ false → n ≤ 8 → n ≡ 0)
-unfolding verdict
-by-verdict k zero b level price v = ((λ s. absurd (go (b && ltb level price) v s)), (λ s l. refl))
-  where
-    go : (t : Bool) → k ≡ cond t 9 0 → stops k ≡ true → ⊥
-    go true v s = false≢true (sym (rw (eq-eqb k 9 v)) ∙ both_right (not (eqb k 0)) (not (eqb k 9)) s)
-    go false v s = false≢true (sym (rw (eq-eqb k 0 v)) ∙ both_left (not (eqb k 0)) (not (eqb k 9)) s)
-by-verdict k (suc n) b level price v = (
-  (λ s. ne_eqb (suc n) 0 (λ z. omega arith)),
-  (λ s l. absurd (true≢false (sym (rw (ne_eqb k 0 (λ z. omega arith), ne_eqb k 9 (λ z. omega arith))) ∙ s))),
-)
-
 module _ (tables : Tables) (call : Call) (k : ℕ) (e : k ≡ check tables call) where
-  verdict-is : k ≡ verdict (precheck tables call) (charged call) (caller_level tables.allowances call) (price tables call)
-  verdict-is = e ∙ check-verdict tables call
-
-  pub first-eight_passed : stops k ≡ false → precheck tables call ≡ 0
-  unfolding precheck first_eight
-  first-eight_passed s = (by-verdict k _ _ _ _ verdict-is).1 s (at_most 0 (first_eight tables call))
-
-  -- what decided it, and its headroom, where checks 1 to 8 pass and where one stops it
   decided-is : decided tables call ≡ (if eqb k 0 then asked tables call else undecided)
   unfolding decided
   decided-is = rw e
-
-  pub stopped_way : stops k ≡ true → reason_of k (record { request = 0; condition = 0 }) none ≡ coded (explain tables call)
-  unfolding explain headroom
-  stopped_way s =
-      let none-decided : decided tables call ≡ undecided = decided-is ∙ rw (not-true (eqb k 0) (both_left (not (eqb k 0)) (not (eqb k 9)) s)) in
-      let stop : eqb (precheck tables call) 0 ≡ false = (by-verdict k _ _ _ _ verdict-is).0 s in
-      rw (none-decided, stop) (ap (λ (n : ℕ). reason_of n (record { request = 0; condition = 0 }) none) e)
 
   -- a call that costs nothing
   pub free_way : charged call ≡ false → (x : Named) → x ≡ named (if eqb k 0 then asked tables call else undecided)
@@ -81,3 +50,19 @@ module _ (tables : Tables) (call : Call) (k : ℕ) (e : k ≡ check tables call)
   unfolding explain headroom
   charged_way p f x h level cost hl hc =
       rw (p, f, decided-is, ← hl, ← hc) (ap₂ (λ (n : ℕ) (y : Named). reason_of n y (some (pos level -ℤ pos cost))) e h)
+
+-- one of the first eight stops it
+module _ (tables : Tables) (call : Call) (k : ℕ) (n : k ≡ 0 → ⊥) (e : k ≡ precheck tables call) where
+  answered_with : k ≡ check tables call
+  unfolding verdict
+  answered_with = e ∙ sym (check-verdict tables call ∙ by (precheck tables call) (λ z. n (e ∙ z)))
+    where
+      by : (m : ℕ) → (m ≡ 0 → ⊥) → verdict m (charged call) (caller_level tables.allowances call) (price tables call) ≡ m
+      by zero h = absurd (h refl)
+      by (suc m) h = refl
+
+  pub stopped_way : reason_of k named_by.Nothing none ≡ coded (explain tables call)
+  unfolding explain headroom
+  stopped_way =
+      let none-decided : decided tables call ≡ undecided = decided-is tables call k answered_with ∙ rw (ne_eqb k 0 n) in
+      rw (none-decided, ← e, ne_eqb k 0 n) (ap (λ (m : ℕ). reason_of m named_by.Nothing none) answered_with)

@@ -6,22 +6,25 @@ use Rattle.rules.specs.Sessions.{EstablishDecision}
 use Rattle.rules.specs.Reasons as rules
 use Rattle.reasons.specs.declared.Reason.{Reason}
 use Rattle.reasons.specs.declared.Named.{Named}
+use Rattle.reasons.specs.declared.Named.TheVariants as named_by
+
+-- what decided a call
+abbrev pub named : rules.Decided → Named
+named rules.undecided = named_by.Nothing
+named (rules.of_lease d) = named_by.Lease (rules.condition_of d)
+named (rules.of_establish d) = named_by.Session (rules.status_of d)
 
 -- 1 a done lease, 2 a done establish, 0 anything else
-abbrev pub request_of : rules.Decided → ℕ
-request_of rules.undecided = 0
-request_of (rules.of_lease d) = 1
-request_of (rules.of_establish d) = 2
+abbrev pub request_of : Named → ℕ
+request_of named_by.Nothing = 0
+request_of (named_by.Lease condition) = 1
+request_of (named_by.Session status) = 2
 
 -- the condition, or the status
-abbrev pub condition_number : rules.Decided → ℕ
-condition_number rules.undecided = 0
-condition_number (rules.of_lease d) = rules.condition_of d
-condition_number (rules.of_establish d) = rules.status_of d
-
--- what decided a call, as two numbers
-abbrev pub named : rules.Decided → Named
-named d = record { request = request_of d; condition = condition_number d }
+abbrev pub condition_number : Named → ℕ
+condition_number named_by.Nothing = 0
+condition_number (named_by.Lease condition) = condition
+condition_number (named_by.Session status) = status
 
 -- "elsewhere it says there is none and reports 0"
 abbrev pub charged_of : Option ℤ → ℕ
@@ -34,7 +37,7 @@ headroom_of (some z) = z
 
 abbrev pub reason_of : ℕ → Named → Option ℤ → Reason
 reason_of check x h =
-    record { check = check; request = x.request; condition = x.condition; charged = charged_of h; headroom = headroom_of h }
+    record { check = check; request = request_of x; condition = condition_number x; charged = charged_of h; headroom = headroom_of h }
 
 abbrev pub coded : rules.Reason → Reason
 coded x = reason_of x.check (named x.decided) x.headroom

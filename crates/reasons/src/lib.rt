@@ -3,9 +3,9 @@
 // lengths.
 #![tactic(auto)]
 
-ghost use Rattle.std.specs.Prelude.{◌≡◌, not, ◌&&◌, ◌+◌, ◌^◌, ◌<◌, eqb, pos, ◌-ℤ◌};
+ghost use Rattle.std.specs.Prelude.{◌≡◌, ◌+◌, ◌^◌, ◌<◌, pos, ◌-ℤ◌};
 ghost use Rattle.std.proofs.Math.Option.{none, some};
-ghost use Rattle.reasons.specs.Coded.{reason_of};
+ghost use Rattle.reasons.specs.Coded.{request_of, condition_number, reason_of};
 
 // A reason, for C: the check or 0; what a done call asked for, 1 a lease or 2 a session, and what decided it; 1 where there is a
 // headroom, and the headroom.
@@ -19,32 +19,33 @@ pub struct Reason {
     pub headroom: i64,
 }
 
-// Requests that are decided.
-pub const LEASE: u32 = 1;
-
-pub const ESTABLISH: u32 = 2;
-
-// What decided a call: its request and its condition.
+// What decided a call: the condition on which a lease is refused, or the status of a session, 0 where all is granted; or nothing.
 #[derive(Clone, Copy)]
-pub struct Named {
-    pub request: u32,
-    pub condition: u32,
+pub enum Named {
+    Nothing,
+    Lease { condition: u32 },
+    Session { status: u32 },
 }
 
-// Whether one of checks 1 to 8 stops a call that is answered with this number.
-pub fn is_stopped(check: u32) -> bool
-    ensures { result ≡ (not (eqb check 0) && not (eqb check 9)) }
-{
-    (check != 0) & (check != 9)
-}
+impl Named {
+    fn request(self) -> u32
+        ensures { result ≡ request_of self }
+    {
+        match self {
+            Named::Nothing => 0,
+            Named::Lease { condition } => 1,
+            Named::Session { status } => 2,
+        }
+    }
 
-// Nothing has been decided.
-pub fn nothing_named() -> Named
-    ensures { result ≡ record { request = 0; condition = 0 } }
-{
-    Named {
-        request: 0,
-        condition: 0,
+    fn condition(self) -> u32
+        ensures { result ≡ condition_number self }
+    {
+        match self {
+            Named::Nothing => 0,
+            Named::Lease { condition } => condition,
+            Named::Session { status } => status,
+        }
     }
 }
 
@@ -54,8 +55,8 @@ pub fn without_headroom(check: u32, named: Named) -> Reason
 {
     Reason {
         check,
-        request: named.request,
-        condition: named.condition,
+        request: named.request(),
+        condition: named.condition(),
         charged: 0,
         headroom: 0,
     }
@@ -76,8 +77,8 @@ pub fn with_headroom(check: u32, named: Named, level: u64, cost: u64) -> Reason
     let headroom = difference(level, cost);
     Reason {
         check,
-        request: named.request,
-        condition: named.condition,
+        request: named.request(),
+        condition: named.condition(),
         charged: 1,
         headroom,
     }

@@ -1,7 +1,7 @@
--- The numbers of checks: a list of them in two parts, what a number of 0 shows, and the ways out of the functions that check.
+-- The numbers of checks: a list of them in two parts, what passed checks show, and the ways out of the functions that check.
 -- Assumes nothing.
 use Rattle.std.specs.Prelude.{if◌then◌else◌}
-use Prim.Native.Nat.{ℕ, suc, ◌+◌, ◌≤◌, ◌<◌}
+use Prim.Native.Nat.{ℕ, zero, suc, ◌+◌, ◌≤◌, ◌<◌}
 use mathlib.Core.Path.{◌≡◌, refl, sym, ap, ◌∙◌}
 use mathlib.Core.Bool.{Bool, true, false, not, ◌&&◌, ◌||◌}
 use mathlib.Core.List.{List, [], ◌∷◌, ◌++◌}
@@ -14,9 +14,14 @@ use Rattle.rules.specs.Sizes.{connection_count, connections_size, leases_size, t
 use Rattle.rules.specs.Tables.{Tables, partner_of, state, is_closed, sized, bucket_of, clock}
 use Rattle.allowance.specs.Bucket.{level_now}
 use Rattle.rules.specs.Calls.{Call, opening, closing, keepalive, time_of, connection_of}
+use Rattle.allowance.specs.Meter.{verdict}
 use Rattle.rules.specs.Charges.{price, caller_level}
+use Rattle.rules.proofs.Checks.{check-verdict}
 use Rattle.rules.proofs.Prices.{prices}
-use Rattle.rules.specs.Checks.{wrong_size, unknown_connection, wrong_time, wrong_state, wrong_lengths, not_from_peer, not_permitted, no_session, above_level, past_limit, first_applying, first_eight, checks, check, wrong_term, check_start}
+use Rattle.rules.specs.Checks.{wrong_size, unknown_connection, wrong_time, wrong_state, wrong_lengths, not_from_peer, not_permitted, no_session, above_level, past_limit, first_applying, first_eight, checks, precheck, check, wrong_term, check_start}
+use Rattle.refusal_numbers.specs.declared.Refusal.{Refusal}
+use Rattle.refusal_numbers.specs.Numbers.{number_of}
+use Rattle.refusal_numbers.proofs.Numbers.{number-some}
 use Rattle.refusals.specs.Passed.{first_three, Sized, Payable}
 
 -- ---- a list in two parts
@@ -71,16 +76,6 @@ module _ (tables : Tables) (time c : ℕ) (s u : Bool) (hs : s ≡ sized tables)
   unfolding first_three first_applying
   three_pass h k l = rw (← hs, ← hu, h, k, lt-leb connection_count c l)
 
--- what three passed checks show
-module _ (tables : Tables) (time c k : ℕ) (e : k ≡ first_three tables time c) (z : k ≡ 0) where
-  pub three-sized : Sized tables
-  unfolding first_three
-  three-sized = sizes-known tables (not-false _ (first_passed 0 _ _ (sym e ∙ z)))
-
-  pub three-known : c < connection_count
-  unfolding first_three
-  three-known = leb-false _ _ (first_passed 2 _ _ (others_passed 1 _ _ (others_passed 0 _ _ (sym e ∙ z))))
-
 -- ---- a fresh start
 
 module _ (tables : Tables) (time term : ℕ) (s : Bool) (hs : s ≡ sized tables) where
@@ -100,11 +95,20 @@ module _ (tables : Tables) (time term : ℕ) (s : Bool) (hs : s ≡ sized tables
   unfolding check_start first_applying
   start-passes h l t = rw (← hs, h, lt-leb time_limit time l, t)
 
-pub start-sized : (tables : Tables) (time term k : ℕ) → k ≡ check_start tables time term → k ≡ 0 → Sized tables
+pub start-sized : (tables : Tables) (time term : ℕ) → 0 ≡ check_start tables time term → Sized tables
 unfolding check_start
-start-sized tables time term k e z = sizes-known tables (not-false _ (first_passed 0 _ _ (sym e ∙ z)))
+start-sized tables time term e = sizes-known tables (not-false _ (first_passed 0 _ _ (sym e)))
 
 -- ---- any call on a connection: its first three checks, then the others
+
+fourth_to_eighth : Tables → Call → List Bool
+fourth_to_eighth tables call =
+    wrong_state tables.connections call
+    ∷ wrong_lengths call
+    ∷ not_from_peer call
+    ∷ not_permitted tables.connections call
+    ∷ no_session tables.connections call
+    ∷ []
 
 others : Tables → Call → List Bool
 others tables call =
@@ -116,20 +120,36 @@ others tables call =
     ∷ above_level tables call
     ∷ []
 
-module _ (tables : Tables) (call : Call) (k : ℕ) (e : k ≡ first_three tables (time_of call) (connection_of call)) where
-  pub three-stop : (k ≡ 0 → ⊥) → k ≡ check tables call
-  unfolding first_three check checks first_eight wrong_time others
-  three-stop h = stopped 0 (wrong_size tables ∷ wrong_time tables.allowances call ∷ unknown_connection call ∷ []) (others tables call) k e h
+module _ (tables : Tables) (call : Call) where
+  abbrev three : List Bool
+  three = wrong_size tables ∷ wrong_time tables.allowances call ∷ unknown_connection call ∷ []
 
-  three_go : k ≡ 0 → check tables call ≡ first_applying 4 (others tables call)
-  unfolding first_three check checks first_eight wrong_time others
-  three_go z = passed 0 (wrong_size tables ∷ wrong_time tables.allowances call ∷ unknown_connection call ∷ []) (others tables call) k e z
+  pub three-stop : (refusal : Refusal) → number_of refusal ≡ first_three tables (time_of call) (connection_of call) → number_of refusal ≡ precheck tables call
+  unfolding first_three precheck first_eight wrong_time fourth_to_eighth
+  three-stop refusal e = stopped 0 three (fourth_to_eighth tables call) _ e (number-some refusal)
+
+  three_go : 0 ≡ first_three tables (time_of call) (connection_of call) → precheck tables call ≡ first_applying 4 (fourth_to_eighth tables call)
+  unfolding first_three precheck first_eight wrong_time fourth_to_eighth
+  three_go e = passed 0 three (fourth_to_eighth tables call) 0 e refl
+
+  -- one of the first eight stops it, or it is left to check 9
+  pub eight-stop : (refusal : Refusal) → number_of refusal ≡ precheck tables call → number_of refusal ≡ check tables call
+  unfolding precheck check checks
+  eight-stop refusal e = stopped 0 (first_eight tables call) (above_level tables call ∷ []) _ e (number-some refusal)
+
+  pub last-left : 0 ≡ precheck tables call → check tables call ≡ (if above_level tables call then 9 else 0)
+  unfolding precheck check checks first_eight first_applying
+  last-left e = passed 0 (first_eight tables call) (above_level tables call ∷ []) 0 e refl ∙ by (above_level tables call)
+    where
+      by : (t : Bool) → first_applying 9 (t ∷ []) ≡ (if t then 9 else 0)
+      by true = refl
+      by false = refl
 
 -- what passed checks show of any call
-module _ (tables : Tables) (call : Call) (k : ℕ) (e : k ≡ check tables call) (z : k ≡ 0) where
+module _ (tables : Tables) (call : Call) (e : 0 ≡ check tables call) where
   all_passed : first_applying 1 (wrong_size tables ∷ wrong_time tables.allowances call ∷ unknown_connection call ∷ others tables call) ≡ 0
   unfolding check checks first_eight others
-  all_passed = sym e ∙ z
+  all_passed = sym e
 
   pub call-sized : Sized tables
   call-sized = sizes-known tables (not-false _ (first_passed 0 _ _ all_passed))
@@ -156,14 +176,6 @@ module _ (tables : Tables) (call : Call) (k : ℕ) (e : k ≡ check tables call)
   unfolding others
   sent-by-peer = first_passed 5 _ _ (others_passed 4 _ _ (others_passed 3 _ _ from_fourth))
 
-  pub is_allowed : not_permitted tables.connections call ≡ false
-  unfolding others
-  is_allowed = first_passed 6 _ _ (others_passed 5 _ _ (others_passed 4 _ _ (others_passed 3 _ _ from_fourth)))
-
-  pub session_there : no_session tables.connections call ≡ false
-  unfolding others
-  session_there = first_passed 7 _ _ (others_passed 6 _ _ (others_passed 5 _ _ (others_passed 4 _ _ (others_passed 3 _ _ from_fourth))))
-
   pub payable : Payable tables.allowances (time_of call) (connection_of call) (price tables call)
   unfolding others above_level caller_level
   payable = record {
@@ -176,69 +188,71 @@ module _ (tables : Tables) (call : Call) (k : ℕ) (e : k ≡ check tables call)
 
 -- ---- open
 
-pub open_known : (tables : Tables) (time c : ℕ) (reply : List ℕ) (k : ℕ) → k ≡ check tables (opening time c reply) → k ≡ 0
+pub open_known : (tables : Tables) (time c : ℕ) (reply : List ℕ) → 0 ≡ check tables (opening time c reply)
     → (Payable tables.allowances time c open_cost) × (least_buffer ≤ length reply)
 unfolding wrong_lengths
-open_known tables time c reply k e z =
-    (rw ((prices tables).open_price time c reply) at (payable tables (opening time c reply) k e z), ltb-false _ _ (right_lengths tables (opening time c reply) k e z))
+open_known tables time c reply e =
+    (rw ((prices tables).open_price time c reply) at (payable tables (opening time c reply) e), ltb-false _ _ (right_lengths tables (opening time c reply) e))
 
-module _ (tables : Tables) (time c : ℕ) (reply : List ℕ) (k s : ℕ) (e : k ≡ first_three tables time c) (z : k ≡ 0) (hs : s ≡ state tables.connections c) where
-  go : check tables (opening time c reply)
-      ≡ first_applying 4
-      (not (eqb s 0) ∷ ltb (length reply) least_buffer ∷ false ∷ false ∷ false ∷ ltb (level_now (bucket_of tables.allowances (partner_of c)) time) open_cost ∷ [])
-  unfolding others wrong_state wrong_lengths not_from_peer not_permitted no_session above_level caller_level
-  go = rw hs (three_go tables (opening time c reply) k e z ∙ rw ((prices tables).open_price time c reply))
+module _ (tables : Tables) (time c : ℕ) (reply : List ℕ) (s : ℕ) (e : 0 ≡ first_three tables time c) (hs : s ≡ state tables.connections c) where
+  go : precheck tables (opening time c reply) ≡ first_applying 4 (not (eqb s 0) ∷ ltb (length reply) least_buffer ∷ false ∷ false ∷ false ∷ [])
+  unfolding fourth_to_eighth wrong_state wrong_lengths not_from_peer not_permitted no_session
+  go = rw hs (three_go tables (opening time c reply) e)
 
-  pub open_wrong-state : (s ≡ 0 → ⊥) → 4 ≡ check tables (opening time c reply)
+  pub open_wrong-state : (s ≡ 0 → ⊥) → 4 ≡ precheck tables (opening time c reply)
   unfolding first_applying
   open_wrong-state h = sym (go ∙ rw (ne_eqb s 0 h))
 
   module _ (h : s ≡ 0) where
-    pub open_wrong_lengths : length reply < least_buffer → 5 ≡ check tables (opening time c reply)
+    pub open_wrong_lengths : length reply < least_buffer → 5 ≡ precheck tables (opening time c reply)
     unfolding first_applying
     open_wrong_lengths l = sym (go ∙ rw (eq-eqb s 0 h, lt-ltb (length reply) least_buffer l))
 
-    module _ (l : least_buffer ≤ length reply) (level : ℕ) (hl : level ≡ level_now (bucket_of tables.allowances (partner_of c)) time) where
-      pub open_above-level : level < open_cost → 9 ≡ check tables (opening time c reply)
-      unfolding first_applying
-      open_above-level p = sym (go ∙ rw (eq-eqb s 0 h, le-ltb (length reply) least_buffer l, ← hl, lt-ltb level open_cost p))
+    pub open_passes : least_buffer ≤ length reply → 0 ≡ precheck tables (opening time c reply)
+    unfolding first_applying
+    open_passes l = sym (go ∙ rw (eq-eqb s 0 h, le-ltb (length reply) least_buffer l))
 
-      pub open_passes : open_cost ≤ level → 0 ≡ check tables (opening time c reply)
-      unfolding first_applying
-      open_passes p = sym (go ∙ rw (eq-eqb s 0 h, le-ltb (length reply) least_buffer l, ← hl, le-ltb level open_cost p))
+-- check 9 compares with the price, which is the same whatever the buffer holds
+pub open_last : (tables : Tables) (time c : ℕ) (reply : List ℕ) (k : ℕ) → 0 ≡ precheck tables (opening time c reply)
+    → k ≡ (if ltb (level_now (bucket_of tables.allowances (partner_of c)) time) open_cost then 9 else 0) → k ≡ check tables (opening time c reply)
+unfolding above_level caller_level
+open_last tables time c reply k e h = h ∙ sym (last-left tables (opening time c reply) e ∙ rw ((prices tables).open_price time c reply))
 
 -- ---- close
 
-pub close_known : (tables : Tables) (time c : ℕ) (relay : List ℕ) (k : ℕ) → k ≡ check tables (closing time c relay) → k ≡ 0
+pub close_known : (tables : Tables) (time c : ℕ) (relay : List ℕ) → 0 ≡ check tables (closing time c relay)
     → (c < connection_count) × (least_buffer ≤ length relay)
 unfolding wrong_lengths
-close_known tables time c relay k e z =
-    (call_known tables (closing time c relay) k e z, ltb-false _ _ (right_lengths tables (closing time c relay) k e z))
+close_known tables time c relay e =
+    (call_known tables (closing time c relay) e, ltb-false _ _ (right_lengths tables (closing time c relay) e))
 
-module _ (tables : Tables) (time c : ℕ) (relay : List ℕ) (k s : ℕ) (e : k ≡ first_three tables time c) (z : k ≡ 0) (hs : s ≡ state tables.connections c) where
-  -- check 9 compares with nothing
-  close_go : check tables (closing time c relay)
-      ≡ first_applying 4
-      (eqb s 0 ∷ ltb (length relay) least_buffer ∷ false ∷ false ∷ false ∷ ltb (level_now (bucket_of tables.allowances (partner_of c)) time) 0 ∷ [])
-  unfolding others wrong_state wrong_lengths not_from_peer not_permitted no_session above_level caller_level price
-  close_go = rw hs (three_go tables (closing time c relay) k e z)
+module _ (tables : Tables) (time c : ℕ) (relay : List ℕ) (s : ℕ) (e : 0 ≡ first_three tables time c) (hs : s ≡ state tables.connections c) where
+  close_go : precheck tables (closing time c relay) ≡ first_applying 4 (eqb s 0 ∷ ltb (length relay) least_buffer ∷ false ∷ false ∷ false ∷ [])
+  unfolding fourth_to_eighth wrong_state wrong_lengths not_from_peer not_permitted no_session
+  close_go = rw hs (three_go tables (closing time c relay) e)
 
-  pub close_wrong-state : s ≡ 0 → 4 ≡ check tables (closing time c relay)
+  pub close_wrong-state : s ≡ 0 → 4 ≡ precheck tables (closing time c relay)
   unfolding first_applying
   close_wrong-state h = sym (close_go ∙ rw (eq-eqb s 0 h))
 
   module _ (h : s ≡ 0 → ⊥) where
-    pub close_wrong_lengths : length relay < least_buffer → 5 ≡ check tables (closing time c relay)
+    pub close_wrong_lengths : length relay < least_buffer → 5 ≡ precheck tables (closing time c relay)
     unfolding first_applying
     close_wrong_lengths l = sym (close_go ∙ rw (ne_eqb s 0 h, lt-ltb (length relay) least_buffer l))
 
-    pub close_passes : least_buffer ≤ length relay → 0 ≡ check tables (closing time c relay)
+    pub close_passes : least_buffer ≤ length relay → 0 ≡ precheck tables (closing time c relay)
     unfolding first_applying
-    close_passes l =
-        sym
-        (close_go
-        ∙ rw
-        (ne_eqb s 0 h, le-ltb (length relay) least_buffer l, le-ltb (level_now (bucket_of tables.allowances (partner_of c)) time) 0 (omega arith)))
+    close_passes l = sym (close_go ∙ rw (ne_eqb s 0 h, le-ltb (length relay) least_buffer l))
+
+-- a close is free: no check 9
+pub close_free : (tables : Tables) (time c : ℕ) (relay : List ℕ) (k : ℕ) → k ≡ precheck tables (closing time c relay) → k ≡ check tables (closing time c relay)
+unfolding verdict
+close_free tables time c relay k e =
+    e ∙ sym (check-verdict tables (closing time c relay) ∙ free (precheck tables (closing time c relay)))
+  where
+    free : (n : ℕ) → verdict n false (caller_level tables.allowances (closing time c relay)) (price tables (closing time c relay)) ≡ n
+    free zero = refl
+    free (suc n) = refl
 
 -- ---- keepalive: a close that also has a reply buffer
 
@@ -266,7 +280,7 @@ longer_goes false false false false reply true z = absurd (omega arith)
 longer_goes false false false false true false z = refl
 longer_goes false false false false false false z = refl
 
-module _ (tables : Tables) (time c : ℕ) (reply relay : List ℕ) (k : ℕ) (e : k ≡ check tables (closing time c relay)) where
+module _ (tables : Tables) (time c : ℕ) (reply relay : List ℕ) where
   -- neither costs anything
   abbrev free : ltb (level_now (bucket_of tables.allowances (partner_of c)) time) 0 ≡ false
   free = le-ltb (level_now (bucket_of tables.allowances (partner_of c)) time) 0 (omega arith)
@@ -283,14 +297,15 @@ module _ (tables : Tables) (time c : ℕ) (reply relay : List ℕ) (k : ℕ) (e 
   unfolding check checks first_eight wrong_time wrong_state wrong_lengths not_from_peer not_permitted no_session above_level caller_level price
   as_keepalive = rw free
 
-  pub keepalive_stops : (k ≡ 0 → ⊥) → k ≡ check tables (keepalive time c reply relay)
-  keepalive_stops n =
-      e ∙ as_close ∙ longer_stops _ _ _ _ (ltb (length reply) least_buffer) _ (λ z. n (e ∙ as_close ∙ z)) ∙ sym as_keepalive
+  pub keepalive_stops : (refusal : Refusal) → number_of refusal ≡ check tables (closing time c relay)
+      → number_of refusal ≡ check tables (keepalive time c reply relay)
+  keepalive_stops refusal e =
+      e ∙ as_close ∙ longer_stops _ _ _ _ (ltb (length reply) least_buffer) _ (λ z. number-some refusal (e ∙ as_close ∙ z)) ∙ sym as_keepalive
 
-  module _ (z : k ≡ 0) where
+  module _ (e : 0 ≡ check tables (closing time c relay)) where
     with-reply : check tables (keepalive time c reply relay) ≡ (if ltb (length reply) least_buffer then 5 else 0)
     with-reply =
-        as_keepalive ∙ longer_goes _ _ _ _ (ltb (length reply) least_buffer) (ltb (length relay) least_buffer) (sym (e ∙ as_close) ∙ z)
+        as_keepalive ∙ longer_goes _ _ _ _ (ltb (length reply) least_buffer) (ltb (length relay) least_buffer) (sym (e ∙ as_close))
 
     pub keepalive-wrong_lengths : length reply < least_buffer → 5 ≡ check tables (keepalive time c reply relay)
     keepalive-wrong_lengths l = sym (with-reply ∙ rw (lt-ltb (length reply) least_buffer l))
@@ -299,9 +314,9 @@ module _ (tables : Tables) (time c : ℕ) (reply relay : List ℕ) (k : ℕ) (e 
     keepalive-passes l = sym (with-reply ∙ rw (le-ltb (length reply) least_buffer l))
 
 -- what passed checks show of it
-pub keepalive-known : (tables : Tables) (time c : ℕ) (reply relay : List ℕ) (k : ℕ) → k ≡ check tables (keepalive time c reply relay) → k ≡ 0
+pub keepalive-known : (tables : Tables) (time c : ℕ) (reply relay : List ℕ) → 0 ≡ check tables (keepalive time c reply relay)
     → (c < connection_count) × (least_buffer ≤ length reply) × (least_buffer ≤ length relay)
 unfolding wrong_lengths
-keepalive-known tables time c reply relay k e z =
-    let fits = either_false _ _ (right_lengths tables (keepalive time c reply relay) k e z) in
-    (call_known tables (keepalive time c reply relay) k e z, ltb-false _ _ fits.0, ltb-false _ _ fits.1)
+keepalive-known tables time c reply relay e =
+    let fits = either_false _ _ (right_lengths tables (keepalive time c reply relay) e) in
+    (call_known tables (keepalive time c reply relay) e, ltb-false _ _ fits.0, ltb-false _ _ fits.1)

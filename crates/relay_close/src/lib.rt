@@ -30,14 +30,7 @@ fn accept(
         (plan (lent connections.old leases.old allowances.old) (closing time c relay.old))) }
 {
     let answer = closing::close(connections, leases, c, relay);
-    keepalives::sent(
-        connections,
-        time,
-        c,
-        answer.reply,
-        answer.relay,
-        answer.destination,
-    );
+    keepalives::sent(connections, time, c, answer);
     allowance_table::set_clock(allowances, time);
     answer
 }
@@ -56,7 +49,7 @@ pub extern "C" fn crondelith_close(
         ≡ as_returned (step_recorded (lent connections.old leases.old allowances.old) map
         (closing time connection relay.old)) }
 {
-    let refusal = refusals::close::refusal(
+    let checked = refusals::close::check(
         connections,
         leases,
         allowances,
@@ -64,12 +57,16 @@ pub extern "C" fn crondelith_close(
         connection,
         relay.len(),
     );
-    if refusal != 0 {
-        let recorded = journal_records::close_record(refusal, time, connection);
-        return call_answers::refused(refusal, map, recorded);
+    match checked {
+        Err(refusal) => {
+            let number = refusal.number();
+            let recorded = journal_records::close_record(number, time, connection);
+            call_answers::refused(number, map, recorded)
+        }
+        Ok(c) => {
+            let answer = accept(connections, leases, allowances, time, c, relay);
+            let recorded = journal_records::close_record(0, time, connection);
+            call_answers::closed(answer, map, c, recorded)
+        }
     }
-    let c = connection as u8;
-    let answer = accept(connections, leases, allowances, time, c, relay);
-    let recorded = journal_records::close_record(0, time, connection);
-    call_answers::closed(answer, map, c, recorded)
 }

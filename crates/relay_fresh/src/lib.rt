@@ -21,9 +21,8 @@ pub extern "C" fn crondelith_fresh(
         ≡ as_returned (start_recorded (lent connections.old leases.old allowances.old) map time term) }
 {
     let none = [0u8; journal_records::RECORD_BYTES];
-    let refusal = refusals::fresh::refusal(connections, leases, allowances, time, term);
-    if refusal != 0 {
-        return call_answers::refused(refusal, map, none);
+    if let Err(refusal) = refusals::fresh::check(connections, leases, allowances, time, term) {
+        return call_answers::refused(refusal.number(), map, none);
     }
     fresh_tables::fresh_connections(connections);
     fresh_tables::fresh_leases(leases);

@@ -1,7 +1,6 @@
 -- The ways out of a keepalive, over plain values. Assumes nothing.
-use Rattle.std.specs.Prelude.{if◌then◌else◌}
 use Prim.Native.Nat.{ℕ}
-use mathlib.Core.Path.{◌≡◌, ap}
+use mathlib.Core.Path.{◌≡◌, refl, ap}
 use mathlib.Core.Bool.{Bool, true, false}
 use mathlib.Core.List.{List}
 use lib.ListN.{length}
@@ -58,12 +57,12 @@ module _ (tables : Tables) (time c : ℕ) (reply relay : List ℕ) (x : Handled)
     found_neither k e = rw (← hs, h, ← ht, k) e
 
 -- what passed checks show, and the way out behind them
-module _ (tables : Tables) (time c : ℕ) (reply relay : List ℕ) (k : ℕ) (e : k ≡ check tables (keepalive time c reply relay)) (z : k ≡ 0) where
+module _ (tables : Tables) (time c : ℕ) (reply relay : List ℕ) (e : 0 ≡ check tables (keepalive time c reply relay)) where
   pub askable : Askable tables.connections c reply relay
   askable =
-      let known = keepalive-known tables time c reply relay k e z in
+      let known = keepalive-known tables time c reply relay e in
       record {
-        size = (call-sized tables (keepalive time c reply relay) k e z).connections;
+        size = (call-sized tables (keepalive time c reply relay) e).connections;
         known = known.0;
         reply_room = known.1;
         relay_room = known.2;
@@ -76,5 +75,5 @@ module _ (tables : Tables) (time c : ℕ) (reply relay : List ℕ) (k : ℕ) (e 
       → call_result r (lent cs'' ls' al') reply' relay' ≡ shown (step tables (keepalive time c reply relay))
   unfolding plan plan_call charge price
   keepalive_way cs' cs'' ls' al' reply' relay' r h s p =
-      done_way tables (keepalive time c reply relay) k e z (call_result r (lent cs'' ls' al') reply' relay')
+      done_way tables (keepalive time c reply relay) 0 e refl (call_result r (lent cs'' ls' al') reply' relay')
       (marked-done tables (keepalive time c reply relay) (plan_keepalive tables time c) cs' cs'' ls' al' reply' relay' r h s p)

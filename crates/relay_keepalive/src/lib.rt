@@ -33,8 +33,8 @@ fn ask(connections: &mut [u8], time: u64, c: u8, reply: &mut [u8]) -> Answer
         ≡ applied (reply_only (ask connections.old time c) ls (encode keepalive_message)) reply.old relay }
 {
     keepalives::ask(connections, time, c);
-    let sent = svsc_session_writers::svsc_write_keepalive(reply);
-    answers::replied(sent.length as u32)
+    let sent = svsc_session_writers::svsc_write_keepalive(reply).unwrap();
+    answers::replied(sent as u32)
 }
 
 // What the connection needs: to be closed, to be asked, or nothing.
@@ -77,7 +77,7 @@ pub extern "C" fn crondelith_keepalive(
         ≡ as_returned (step_recorded (lent connections.old leases.old allowances.old) map
         (keepalive time connection reply.old relay.old)) }
 {
-    let refusal = refusals::keepalive::refusal(
+    let checked = refusals::keepalive::check(
         connections,
         leases,
         allowances,
@@ -86,21 +86,18 @@ pub extern "C" fn crondelith_keepalive(
         reply.len(),
         relay.len(),
     );
-    if refusal != 0 {
-        let recorded = journal_records::keepalive_record(refusal, time, connection);
-        return call_answers::refused(refusal, map, recorded);
+    match checked {
+        Err(refusal) => {
+            let number = refusal.number();
+            let recorded = journal_records::keepalive_record(number, time, connection);
+            call_answers::refused(number, map, recorded)
+        }
+        Ok(c) => {
+            let answer = attend(connections, leases, time, c, reply, relay);
+            keepalives::sent(connections, time, c, answer);
+            allowance_table::set_clock(allowances, time);
+            let recorded = journal_records::keepalive_record(0, time, connection);
+            call_answers::closed_if_disconnected(answer, map, c, recorded)
+        }
     }
-    let c = connection as u8;
-    let answer = attend(connections, leases, time, c, reply, relay);
-    keepalives::sent(
-        connections,
-        time,
-        c,
-        answer.reply,
-        answer.relay,
-        answer.destination,
-    );
-    allowance_table::set_clock(allowances, time);
-    let recorded = journal_records::keepalive_record(0, time, connection);
-    call_answers::closed_if_disconnected(answer, map, c, recorded)
 }

@@ -1,4 +1,5 @@
 -- What the checks of a message have shown, and the way out of one that is done, over plain values. Assumes nothing.
+use Rattle.std.specs.Prelude.{Ok}
 use Prim.Native.Nat.{ℕ, ◌≤◌, max}
 use mathlib.Core.Path.{◌≡◌, refl, sym, ap, ◌∙◌}
 use mathlib.Core.Bool.{true, false}
@@ -18,7 +19,6 @@ use Rattle.rules.specs.Charges.{charge, price}
 use Rattle.rules.specs.Checks.{wrong_lengths, not_from_peer, precheck, check}
 use Rattle.rules.specs.Plans.{Plan, plan, plan_call, plan_message, plan_decided}
 use Rattle.rules.specs.Step.{step}
-use Rattle.rules.proofs.Answers.{answer-is-check, done_passed}
 use Rattle.rules.proofs.Decisions.{is-renewed, is-granted}
 use Rattle.rules.proofs.Plans.{every_decision}
 use Rattle.statuses.proofs.Ways.{status_range}
@@ -29,58 +29,58 @@ use Rattle.answers.specs.Applied.{handled, applied}
 use Rattle.answers.specs.Results.{call_result, shown}
 use Rattle.answers.proofs.Ways.{done_way, marked-done}
 use Rattle.checks.proofs.MessageChecks.{peer-some, peer-length}
+use Rattle.refusal_numbers.specs.declared.Refusal.{Refusal}
+use Rattle.refusal_numbers.specs.Numbers.{number_of}
+use Rattle.refusal_numbers.proofs.Numbers.{number-some}
 use Rattle.refusals.specs.Passed.{Payable}
-use Rattle.refusals.proofs.Stops.{call-sized, call_known, call-timely, right_lengths, sent-by-peer, payable}
+use Rattle.refusals.proofs.Stops.{eight-stop, call-sized, call_known, call-timely, right_lengths, sent-by-peer, payable}
 use Rattle.decisions.specs.Decided.{meaning}
 use Rattle.leasing.specs.Asked.{InRows}
 use Rattle.establishing.specs.Asked.{InStatuses}
 use Rattle.message_refusal.specs.declared.Assessment.{Assessment}
 use Rattle.message_refusal.specs.Assessed.{assessed_as, assessed}
-use Rattle.message_refusal.proofs.MessageStops.{assessed-number, assessed-price, assessed-decision}
+use Rattle.message_refusal.proofs.MessageStops.{assessed-price, assessed-decision}
 use Rattle.dispatch.specs.Asked.{Admitted, Feasible}
 
--- The price that is handed on is the call's where the journal has it: with 0 and with 9.
-pub recorded-price : (tables : Tables) (time c : ℕ) (m random reply relay : List ℕ) (f : Assessment)
-    → assessed_as f m random ≡ assessed tables time c m random reply relay → priced f.number ≡ true
-    → f.price ≡ price tables (message time c m random reply relay)
-recorded-price tables time c m random reply relay f all h =
-    assessed-price tables time c m random reply relay f all
-    (priced_passed tables (message time c m random reply relay) (rw (← assessed-number tables time c m random reply relay f all) h))
+-- What one of checks 1 to 8 stops has no price in the journal.
+pub unpriced : (tables : Tables) (time c : ℕ) (m random reply relay : List ℕ) (refusal : Refusal)
+    → number_of refusal ≡ precheck tables (message time c m random reply relay) → priced (number_of refusal) ≡ true
+    → 0 ≡ price tables (message time c m random reply relay)
+unpriced tables time c m random reply relay refusal e h =
+    let call = message time c m random reply relay in
+    absurd (number-some refusal (e ∙ priced_passed tables call (rw (← eight-stop tables call refusal e) h)))
 
 -- what passed checks show; f is what they hand on
 module _
     (tables : Tables) (time c : ℕ) (m random reply relay : List ℕ) (f : Assessment)
-    (all : assessed_as f m random ≡ assessed tables time c m random reply relay) (z : f.number ≡ 0)
+    (eight : 0 ≡ precheck tables (message time c m random reply relay))
+    (all : assessed_as (Ok f) m random ≡ assessed tables time c m random reply relay) (e : 0 ≡ check tables (message time c m random reply relay))
   where
     open tables use {connections as cs, leases as ls, allowances as al}
 
     abbrev sent : Call
     sent = message time c m random reply relay
 
-    e : f.number ≡ check tables sent
-    e = assessed-number tables time c m random reply relay f all
-
     passes : precheck tables sent ≡ 0
-    passes = done_passed tables sent (answer-is-check tables sent ∙ sym e ∙ z)
+    passes = sym eight
 
     fits : wrong_lengths sent ≡ false
-    fits = right_lengths tables sent _ e z
+    fits = right_lengths tables sent e
 
     from-peer : from_peer m ≡ true
     unfolding not_from_peer
-    from-peer = not-false _ (sent-by-peer tables sent _ e z)
+    from-peer = not-false _ (sent-by-peer tables sent e)
 
-    pub admitted : Admitted ls al time c m random reply relay
+    pub admitted : Admitted ls time c m random reply relay
     unfolding wrong_lengths
     admitted =
         let sizes = either_false _ _ fits in
         let room : max least_buffer (length m) ≤ length relay = ltb-false _ _ sizes.1 in
         let small = either_false _ _ sizes.0 in
         record {
-          size = (call-sized tables sent _ e z).leases;
-          allowances = (call-sized tables sent _ e z).allowances;
-          known = call_known tables sent _ e z;
-          timely = call-timely tables sent _ e z;
+          size = (call-sized tables sent e).leases;
+          known = call_known tables sent e;
+          timely = call-timely tables sent e;
           random_size = eqb-true _ _ (not-false _ small.0);
           reply_room = ltb-false _ _ small.1;
           relay_room = omega arith;
@@ -96,9 +96,9 @@ module _
     lease_feasible cookie cookie_in_use h = tt
     lease_feasible cookie no_free_id h = tt
     lease_feasible cookie (renewed row) h =
-        omega (arith, (is-renewed ls time c random cs cookie row h).own.high, call_known tables sent _ e z)
+        omega (arith, (is-renewed ls time c random cs cookie row h).own.high, call_known tables sent e)
     lease_feasible cookie (granted row id drawn) h =
-        omega (arith, (is-granted ls time c random cs cookie row id drawn h).own.high, call_known tables sent _ e z)
+        omega (arith, (is-granted ls time c random cs cookie row id drawn h).own.high, call_known tables sent e)
 
     status_feasible : (id : ℕ) (d : EstablishDecision) → decide_establish cs ls time c id ≡ d → InStatuses d
     status_feasible id (refused_with status) h = status_range cs ls time c id status h
@@ -106,7 +106,7 @@ module _
 
     pub feasible : Feasible (meaning f.decision m random)
     feasible =
-        rw (assessed-decision tables time c m random reply relay f all passes)
+        rw (assessed-decision tables time c m random reply relay f eight all)
         (every_decision Feasible tables time c m random reply relay passes
         (record {
           version_answered_lem = λ t ok. tt;
@@ -119,12 +119,12 @@ module _
         }))
 
     pub admitted_payable : Payable al time c f.price
-    admitted_payable = rw (assessed-price tables time c m random reply relay f all passes) (payable tables sent _ e z)
+    admitted_payable = rw (assessed-price tables time c m random reply relay f eight all) (payable tables sent e)
 
     -- what the checks decided is the plan that is carried out
     as_planned : plan_decided tables time c random (meaning f.decision m random) ≡ plan_call tables sent
     unfolding plan_call plan_message
-    as_planned = rw (assessed-decision tables time c m random reply relay f all passes)
+    as_planned = rw (assessed-decision tables time c m random reply relay f eight all)
 
     pub message_way : (cs' cs'' ls' al' reply' relay' : List ℕ) (r : Answer)
         → handled r cs' ls' reply' relay' ≡ applied (plan_decided tables time c random (meaning f.decision m random)) reply relay
@@ -133,6 +133,6 @@ module _
         → call_result r (lent cs'' ls' al') reply' relay' ≡ shown (step tables sent)
     unfolding plan
     message_way cs' cs'' ls' al' reply' relay' r h s p =
-        done_way tables sent _ e z (call_result r (lent cs'' ls' al') reply' relay')
+        done_way tables sent 0 e refl (call_result r (lent cs'' ls' al') reply' relay')
         (marked-done tables sent (plan_call tables sent) cs' cs'' ls' al' reply' relay' r (h ∙ ap (λ (x : Plan). applied x reply relay) as_planned) s
-        (p ∙ rw (assessed-price tables time c m random reply relay f all passes)))
+        (p ∙ rw (assessed-price tables time c m random reply relay f eight all)))

@@ -30,16 +30,9 @@ fn accept(
 {
     connection_table::await_version(connections, c);
     charges::pay(allowances, time, c, rules::OPEN_COST);
-    let sent = svsc_version_writers::svsc_write_version(reply, 1, 0);
-    let answer = answers::replied(sent.length as u32);
-    keepalives::sent(
-        connections,
-        time,
-        c,
-        answer.reply,
-        answer.relay,
-        answer.destination,
-    );
+    let sent = svsc_version_writers::svsc_write_version(reply, 1, 0).unwrap();
+    let answer = answers::replied(sent as u32);
+    keepalives::sent(connections, time, c, answer);
     answer
 }
 
@@ -57,7 +50,7 @@ pub extern "C" fn crondelith_open(
         ≡ as_returned (step_recorded (lent connections.old leases.old allowances.old) map
         (opening time connection reply.old)) }
 {
-    let refusal = refusals::open::refusal(
+    let checked = refusals::open::check(
         connections,
         leases,
         allowances,
@@ -65,12 +58,16 @@ pub extern "C" fn crondelith_open(
         connection,
         reply.len(),
     );
-    if refusal != 0 {
-        let recorded = journal_records::open_record(refusal, time, connection);
-        return call_answers::refused(refusal, map, recorded);
+    match checked {
+        Err(refusal) => {
+            let number = refusal.number();
+            let recorded = journal_records::open_record(number, time, connection);
+            call_answers::refused(number, map, recorded)
+        }
+        Ok(c) => {
+            let answer = accept(connections, allowances, time, c, reply);
+            let recorded = journal_records::open_record(0, time, connection);
+            call_answers::opened(answer, map, c, recorded)
+        }
     }
-    let c = connection as u8;
-    let answer = accept(connections, allowances, time, c, reply);
-    let recorded = journal_records::open_record(0, time, connection);
-    call_answers::opened(answer, map, c, recorded)
 }

@@ -4,20 +4,11 @@ use Prim.Native.Nat.{ℕ, suc, ◌+◌, ◌≤◌}
 use mathlib.Core.Path.{◌≡◌, sym, ap, ◌∙◌}
 use mathlib.Core.List.{List}
 use native.Mathlib.Omega.{arith}
-use borrow.Author.Tests.{eq-eqb, ne_eqb}
 use Rattle.rules.specs.Sizes.{connection_count}
-use Rattle.rules.specs.Tables.{closed, state, is_closed}
+use Rattle.rules.specs.Tables.{is_closed}
 use Rattle.connection_map.specs.Bits.{with_bit}
 use Rattle.connection_map.specs.Maps.{map_of_first, map_of}
 use Rattle.connection_map.proofs.Rebuilding.{first_step}
-
--- by its state
-module _ (cs : List ℕ) (map c s : ℕ) (h : s ≡ state cs c) where
-  pub left_out : s ≡ closed → map ≡ (if is_closed cs c then map else with_bit map c)
-  left_out e = rw (eq-eqb (state cs c) closed (sym h ∙ e))
-
-  pub taken_in : (s ≡ closed → ⊥) → (next : ℕ) → next ≡ with_bit map c → next ≡ (if is_closed cs c then map else with_bit map c)
-  taken_in n next e = rw (ne_eqb (state cs c) closed (λ q. n (h ∙ q))) e
 
 pub one_more : (cs : List ℕ) (map next c : ℕ) → map ≡ map_of_first cs c → next ≡ (if is_closed cs c then map else with_bit map c)
     → next ≡ map_of_first cs (c + 1)

@@ -8,6 +8,8 @@ ghost use Rattle.connection_map.specs.Bits.{with_bit};
 ghost use Rattle.connection_map.specs.Maps.{map_of, rebuild};
 ghost use Rattle.relay_rebuild.specs.Coded.{coded};
 
+use connection_table::ConnectionState;
+
 // The answer to a table of another size.
 const WRONG_SIZE: u32 = 1;
 
@@ -24,7 +26,7 @@ fn with_connection(connections: &[u8], map: u64, c: u8) -> u64
     requires { c < connection_count }
     ensures { result ≡ (if is_closed connections.now c then map else with_bit map c) }
 {
-    if connection_table::state(connections, c) == rules::CLOSED {
+    if connection_table::state(connections, c) == ConnectionState::Closed {
         return map;
     }
     connection_bits::with_bit(map, c)
@@ -34,10 +36,8 @@ fn map_of(connections: &[u8]) -> u64
     ensures { result ≡ map_of connections.now }
 {
     let mut map = 0;
-    let mut c = 0;
-    while c < rules::CONNECTION_COUNT as u8 {
+    for c in 0..rules::CONNECTION_COUNT as u8 {
         map = with_connection(connections, map, c);
-        c += 1;
     }
     map
 }

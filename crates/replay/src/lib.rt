@@ -1,86 +1,49 @@
 // Replaying a journal from a fresh relay, on an allowance table as the relay keeps it.
 #![tactic(auto)]
 
-ghost use Rattle.std.specs.Prelude.{◌≡◌, not, List, ℕ, length, if◌then◌else◌};
-ghost use Rattle.rules.specs.Sizes.{allowances_size};
-ghost use Rattle.journal.specs.Replays.{table_ledger, is_contradicted, advance, concluded, replay_from, replay};
-ghost use Rattle.journal_records.specs.Items.{as_record};
-ghost use Rattle.replay_parts.specs.Answers.{with_allowances, outcome_of};
-ghost use Rattle.replay_parts.specs.Turns.{passes, taken};
-ghost use Rattle.replay.specs.Settled.{Settleable};
+ghost use Rattle.std.specs.Prelude.{◌≡◌};
+ghost use Rattle.journal.specs.Replays.{table_ledger, replay};
+ghost use Rattle.replay_parts.specs.Answers.{with_allowances};
 
-use journal_records::{Item, Record};
-use replay_parts::Replayed;
+use allowance_table::Allowances;
+use journal_records::Record;
+use replay_parts::{Ledger, Replayed};
+use std::marker::Model;
 
-// Whether the record contradicts the rules, after those before it.
-fn is_contradicted(table: &[u8], made: Record) -> bool
-    requires { length table.now ≡ allowances_size }
-    ensures { result ≡ is_contradicted table_ledger table.now (as_record made) }
-{
-    if rules::CONNECTION_COUNT as u8 <= made.connection {
-        return true;
-    }
-    let partner = made.connection as usize / rules::CONNECTIONS_PER_PARTNER;
-    let level = allowance_table::level(table, partner, made.time);
-    let clock = allowance_table::clock(table);
-    replay_parts::contradicts(made, clock, level)
+// An allowance table of its own, so that what is lent stays as it was where the journal is contradicted.
+#[derive(Drop)]
+struct TableLedger {
+    table: [u8; rules::ALLOWANCES_SIZE],
 }
 
-// What a record leaves: a done one is paid for and moves the clock.
-fn settle(table: &mut [u8], made: Record)
-    requires { Settleable table.old (as_record made) }
-    ensures { table.new ≡ advance table_ledger table.old (as_record made) }
-{
-    if made.answer != 0 {
-        return;
-    }
-    if made.charge == 0 {
-        allowance_table::set_clock(table, made.time);
-    } else {
-        charges::pay(table, made.time, made.connection, made.charge as u64);
-    }
+impl Model for TableLedger {
+    ghost use Rattle.std.specs.Prelude.{ℕ, List};
+
+    ghost Value = { List ℕ };
+
+    ghost view = { λ l. l.table };
 }
 
-// A record that doesn't contradict is settled.
-fn take_record(table: &mut [u8], made: Record) -> bool
-    requires { length table.old ≡ allowances_size }
-    ensures { (result ≡ not (is_contradicted table_ledger table.old (as_record made)))
-        × (table.new ≡ (if result then advance table_ledger table.old (as_record made) else table.old)) }
-{
-    if is_contradicted(table, made) {
-        return false;
-    }
-    settle(table, made);
-    true
-}
+impl Ledger for TableLedger {
+    ghost ledger = { table_ledger };
 
-// What stands at a place, if it is a record that doesn't contradict.
-fn take(table: &mut [u8], journal: &[u8], place: usize) -> bool
-    requires { length table.old ≡ allowances_size }
-    ensures { (result ≡ passes table_ledger journal.now place table.old)
-        × (table.new ≡ taken table_ledger journal.now place table.old) }
-{
-    match journal_records::read(journal, place) {
-        Item::Record(made) => take_record(table, made),
-        Item::Tail => false,
-        Item::End => false,
+    fn clock(&self) -> u64 {
+        Allowances::new(&self.table).clock()
     }
-}
 
-// All of them, one by one.
-fn judge(table: &mut [u8], journal: &[u8]) -> Replayed
-    requires { length table.old ≡ allowances_size }
-    ensures { (al : List ℕ) → outcome_of result al table.new
-        ≡ concluded al (replay_from table_ledger table.old journal.now) }
-{
-    let mut place = 0;
-    while place < journal.len() {
-        if !take(table, journal, place) {
-            return replay_parts::contradicted(place);
+    fn level(&self, partner: usize, time: u64) -> u64 {
+        Allowances::new(&self.table).level(partner, time)
+    }
+
+    fn settle(&mut self, made: Record) {
+        let charged = made.charge != 0;
+        if charged {
+            let charge = made.charge as u64;
+            charges::pay(&mut self.table, made.time, made.connection, charge);
+        } else {
+            allowance_table::set_clock(&mut self.table, made.time);
         }
-        place += journal_records::RECORD_BYTES;
     }
-    replay_parts::agreed()
 }
 
 #[unsafe(no_mangle)]
@@ -92,15 +55,17 @@ pub extern "C" fn crondelith_replay(
 ) -> Replayed
     ensures { with_allowances result allowances.new ≡ replay allowances.old journal.now time term }
 {
-    let refusal = replay_parts::refusal(allowances, time, term);
-    if refusal != 0 {
-        return replay_parts::refused(refusal);
+    if let Err(refusal) = replay_parts::check(allowances, time, term) {
+        return replay_parts::refused(refusal.number());
     }
     let mut table = [0u8; rules::ALLOWANCES_SIZE];
     fresh_tables::fresh_allowances(&mut table, time, term);
-    let verdict = judge(&mut table, journal);
-    if verdict.contradicted == 0 {
-        octet_stores::store(allowances, 0, &table);
+    let mut ledger = TableLedger { table };
+    match replay_parts::judge(&mut ledger, journal) {
+        Ok(()) => {
+            allowances.copy_from_slice(&ledger.table);
+            replay_parts::agreed()
+        }
+        Err(contradiction) => replay_parts::contradicted(contradiction.place),
     }
-    verdict
 }

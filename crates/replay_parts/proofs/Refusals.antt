@@ -1,4 +1,4 @@
--- What refuses a replay, and its ways out, over plain values. Assumes nothing.
+-- What refuses a replay, and its way out, over plain values. Assumes nothing.
 use Prim.Native.Nat.{ℕ, zero, suc, ◌≤◌, ◌<◌}
 use mathlib.Core.Path.{◌≡◌, refl, sym, ◌∙◌}
 use mathlib.Core.Bool.{Bool, true, false}
@@ -10,9 +10,7 @@ use borrow.Author.Tests.{eqb-true, eqb-false, eq-eqb, ne_eqb, le-leb, lt-leb}
 use Rattle.rules.specs.Sizes.{allowances_size, time_limit}
 use Rattle.rules.specs.Checks.{wrong_term, first_applying}
 use Rattle.journal.specs.Replays.{Verdict, check_replay, answered_with}
-use Rattle.journal.specs.Replays as journal
-use Rattle.replay_parts.specs.declared.Replayed.{Replayed}
-use Rattle.replay_parts.specs.Answers.{answer_of, with_allowances, outcome_of}
+use Rattle.replay_parts.specs.Answers.{answer_of, with_allowances}
 
 module _ (al : List ℕ) (time term : ℕ) where
   pub wrong_size_lem : (length al ≡ allowances_size → ⊥) → 1 ≡ check_replay al time term
@@ -33,23 +31,16 @@ module _ (al : List ℕ) (time term : ℕ) where
       unfolding check_replay first_applying
       passes h = rw (eq-eqb _ _ size, lt-leb _ _ early, h)
 
-  pub sized : (k : ℕ) → k ≡ check_replay al time term → k ≡ 0 → length al ≡ allowances_size
-  sized k e z = by (eqb (length al) allowances_size) refl
+  pub sized : 0 ≡ check_replay al time term → length al ≡ allowances_size
+  sized e = by (eqb (length al) allowances_size) refl
     where
       by : (t : Bool) → eqb (length al) allowances_size ≡ t → length al ≡ allowances_size
       by true h = eqb-true _ _ h
-      by false h = absurd (let one : k ≡ 1 = e ∙ sym (wrong_size_lem (eqb-false _ _ h)) in omega arith)
+      by false h = absurd (let one : 0 ≡ 1 = e ∙ sym (wrong_size_lem (eqb-false _ _ h)) in omega arith)
 
--- ---- the ways out, of any replay's verdict
+-- ---- the way out, of any replay's verdict
 
 pub refused_way : (k : ℕ) → (k ≡ 0 → ⊥) → (al : List ℕ) (verdict : Verdict (List ℕ))
     → with_allowances (answer_of k 0 0) al ≡ answered_with k al verdict
 refused_way zero h al verdict = absurd (h refl)
 refused_way (suc k) h al verdict = refl
-
-module _ (al table : List ℕ) (whole : journal.Replayed) (r : Replayed) (e : outcome_of r al table ≡ whole) where
-  pub agreed_way : r.contradicted ≡ 0 → with_allowances r table ≡ whole
-  agreed_way z = rw (eq-eqb _ 0 z) at e
-
-  pub contradicted_way : (r.contradicted ≡ 0 → ⊥) → with_allowances r al ≡ whole
-  contradicted_way n = rw (ne_eqb _ 0 n) at e

@@ -1,7 +1,9 @@
 -- What a replay answers, as C has it.
-use Rattle.std.specs.Prelude.{ℕ, List, eqb, if◌then◌else◌}
+use Rattle.std.specs.Prelude.{ℕ, List, Result, Ok, Err}
+use Rattle.journal.specs.Replays.{Verdict, agrees, contradicted_at}
 use Rattle.journal.specs.Replays as journal
 use Rattle.replay_parts.specs.declared.Replayed.{Replayed}
+use Rattle.replay_parts.specs.declared.Contradiction.{Contradiction}
 
 abbrev pub answer_of : ℕ → ℕ → ℕ → Replayed
 answer_of number contradicted place = record { number = number; contradicted = contradicted; place = place }
@@ -10,6 +12,7 @@ answer_of number contradicted place = record { number = number; contradicted = c
 abbrev pub with_allowances : Replayed → List ℕ → journal.Replayed
 with_allowances r al = record { number = r.number; contradicted = r.contradicted; place = r.place; allowances = al }
 
--- the same, where what a journal that agrees would leave is written, and `al` stays if it is contradicted
-abbrev pub outcome_of : Replayed → (al table : List ℕ) → journal.Replayed
-outcome_of r al table = with_allowances r (if eqb r.contradicted 0 then table else al)
+-- what judging answers, with what is kept at its end, as the rules have it
+abbrev pub verdict_of : {State : Type 0} → Result Unit Contradiction → State → Verdict State
+verdict_of (Ok done) s = agrees s
+verdict_of (Err at) s = contradicted_at at.place

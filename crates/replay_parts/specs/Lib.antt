@@ -1,3 +1,4 @@
 pub mod Answers
+pub mod Settled
 pub mod Turns
 pub mod ItemTurns

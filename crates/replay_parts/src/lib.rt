@@ -1,15 +1,20 @@
-// What the two replays of a journal share: what refuses them, whether a record contradicts the rules, and their answer.
+// What the two replays of a journal share: what refuses them, whether a record contradicts the rules, the judging of all records over what either
+// of them keeps, and their answer.
 #![tactic(auto)]
 
-ghost use Rattle.std.specs.Prelude.{◌≡◌, ◌&&◌, ◌||◌, not, leb, ltb};
-ghost use Rattle.rules.specs.Sizes.{connection_count, time_limit};
+ghost use Rattle.std.specs.Prelude.{◌≡◌, ◌<◌, ◌&&◌, ◌||◌, not, leb, ltb, if◌then◌else◌};
+ghost use Rattle.rules.specs.Sizes.{partners, connection_count, time_limit};
 ghost use Rattle.journal.specs.Records.{unrecorded, priced};
 ghost use Rattle.journal.specs.Contradictions.{has_charge, is_free, contradicts};
-ghost use Rattle.journal.specs.Replays.{check_replay};
+ghost use Rattle.journal.specs.Replays.{Ledger, is_contradicted, advance, replay_from, check_replay};
 ghost use Rattle.journal_records.specs.Items.{as_record};
-ghost use Rattle.replay_parts.specs.Answers.{answer_of};
+ghost use Rattle.refusal_numbers.specs.Numbers.{answer_number};
+ghost use Rattle.replay_parts.specs.Answers.{answer_of, verdict_of};
+ghost use Rattle.replay_parts.specs.Settled.{Settleable};
+ghost use Rattle.replay_parts.specs.Turns.{passes, taken};
 
-use journal_records::Record;
+use journal_records::{Call, Item, Record};
+use refusal_numbers::Refusal;
 
 // What a replay answers: 0 or what refuses it; 1 where the journal is contradicted, and the byte at which the first record that contradicts, or a
 // short tail, begins.
@@ -48,19 +53,19 @@ pub fn contradicted(place: usize) -> Replayed
 }
 
 // Checks 1 and 2 of a fresh start, of the one table that is lent, and then 6, of the term.
-pub fn refusal(allowances: &[u8], time: u64, term: u64) -> u32
-    ensures { result ≡ check_replay allowances.now time term }
+pub fn check(allowances: &[u8], time: u64, term: u64) -> Result<(), Refusal>
+    ensures { answer_number result ≡ check_replay allowances.now time term }
 {
     if allowances.len() != rules::ALLOWANCES_SIZE {
-        return 1;
+        return Err(Refusal::WrongSizes);
     }
     if rules::TIME_LIMIT <= time {
-        return 2;
+        return Err(Refusal::WrongTime);
     }
     if lease_terms::is_wrong(term) {
-        return 6;
+        return Err(Refusal::Malformed);
     }
-    0
+    Ok(())
 }
 
 // Its connection, call number or answer is out of range.
@@ -84,9 +89,9 @@ fn is_out_of_time(made: Record, clock: u64) -> bool
 fn is_free(made: Record) -> bool
     ensures { result ≡ is_free (as_record made) }
 {
-    (made.call == journal_records::CLOSE)
-        | (made.call == journal_records::KEEPALIVE)
-        | ((made.call == journal_records::MESSAGE) & (made.kind == 9))
+    (made.call == Call::Close.number())
+        | (made.call == Call::Keepalive.number())
+        | ((made.call == Call::Message.number()) & (made.kind == 9))
 }
 
 // It has a charge that its call or its answer can't have.
@@ -111,4 +116,80 @@ pub fn contradicts(made: Record, clock: u64, level: u64) -> bool
         | charged
         | ((made.answer == 0) & (level < charge))
         | ((made.answer == 9) & (charge <= level))
+}
+
+// What a replay keeps from record to record: a ledger of the rules.
+pub trait Ledger {
+    ghost ledger: { Ledger Self };
+
+    // The time of the latest done record.
+    fn clock(&self) -> u64
+        ensures { result ≡ ledger.clock self.now };
+
+    // What a partner has at a time.
+    fn level(&self, partner: usize, time: u64) -> u64
+        requires { partner < partners }
+        ensures { result ≡ ledger.level self.now partner time };
+
+    // A done record is paid for and moves the clock. That it doesn't contradict is required: no answer would serve where it does.
+    fn settle(&mut self, made: Record)
+        requires { Settleable ledger self.old (as_record made) }
+        ensures { self.new ≡ ledger.settle self.old (as_record made) };
+}
+
+// Whether the record contradicts the rules, after those before it.
+fn is_contradicted<L: Ledger>(ledger: &L, made: Record) -> bool
+    ensures { result ≡ is_contradicted L.ledger ledger.now (as_record made) }
+{
+    if rules::CONNECTION_COUNT as u8 <= made.connection {
+        return true;
+    }
+    let partner = connection_table::partner_of(made.connection);
+    let level = ledger.level(partner, made.time);
+    contradicts(made, ledger.clock(), level)
+}
+
+// A record that doesn't contradict is settled, if it is done.
+fn take_record<L: Ledger>(ledger: &mut L, made: Record) -> bool
+    ensures { (result ≡ not (is_contradicted L.ledger ledger.old (as_record made)))
+        × (ledger.new ≡ (if result then advance L.ledger ledger.old (as_record made) else ledger.old)) }
+{
+    if is_contradicted(ledger, made) {
+        return false;
+    }
+    let done = made.answer == 0;
+    if done {
+        ledger.settle(made);
+    }
+    true
+}
+
+// What stands at a place, if it is a record that doesn't contradict.
+fn take<L: Ledger>(ledger: &mut L, journal: &[u8], place: usize) -> bool
+    ensures { (result ≡ passes L.ledger journal.now place ledger.old)
+        × (ledger.new ≡ taken L.ledger journal.now place ledger.old) }
+{
+    match journal_records::read(journal, place) {
+        Item::Record(made) => take_record(ledger, made),
+        Item::Tail => false,
+        Item::End => false,
+    }
+}
+
+// Where a journal contradicts the rules: the byte at which the first record that contradicts, or a short tail, begins.
+#[derive(Clone, Copy)]
+pub struct Contradiction {
+    pub place: usize,
+}
+
+// All of a journal's records, one by one. Where it is contradicted nothing is said of the ledger, which its owner drops.
+pub fn judge<L: Ledger>(ledger: &mut L, journal: &[u8]) -> Result<(), Contradiction>
+    ensures { verdict_of result ledger.new ≡ replay_from L.ledger ledger.old journal.now }
+{
+    for place in (0..journal.len()).step_by(journal_records::RECORD_BYTES) {
+        if !take(ledger, journal, place) {
+            return Err(Contradiction { place });
+        }
+    }
+    Ok(())
 }

@@ -1,131 +1,47 @@
 // Replaying a journal by filling every level once for each second: the plain way, to check the other by.
 #![tactic(auto)]
 
-ghost use Rattle.std.specs.Prelude.{◌≡◌, not, List, ℕ, length, if◌then◌else◌};
-ghost use Rattle.rules.specs.Sizes.{partners};
-ghost use Rattle.rules.specs.Tables.{partner_of};
-ghost use Rattle.journal.specs.Replays.{is_contradicted, advance, concluded, replay_from};
-ghost use Rattle.journal.specs.Plain.{plain_ledger, level_table, as_table, replay_plain};
-ghost use Rattle.journal_records.specs.Items.{as_record};
-ghost use Rattle.replay_parts.specs.Answers.{with_allowances, outcome_of};
-ghost use Rattle.replay_parts.specs.Turns.{passes, taken};
-ghost use Rattle.replay_plain.specs.Kept.{kept, Settleable};
+ghost use Rattle.std.specs.Prelude.{◌≡◌};
+ghost use Rattle.journal.specs.Plain.{plain_ledger, replay_plain};
+ghost use Rattle.replay_parts.specs.Answers.{with_allowances};
 
-use journal_records::{Item, Record};
-use replay_parts::Replayed;
+use journal_records::Record;
+use replay_parts::{Ledger, Replayed};
+use std::marker::Model;
 
-// One turn: whether it passed, and the time of the latest done record.
-#[derive(Clone, Copy)]
-struct Turn {
-    passed: bool,
+// Every partner's level at the time of the latest done record, and that time.
+#[derive(Drop)]
+struct PlainLedger {
+    levels: [u64; rules::PARTNERS],
     clock: u64,
 }
 
-// The answer, and the time of the latest done record.
-#[derive(Clone, Copy)]
-struct Judged {
-    answer: Replayed,
-    clock: u64,
+impl Model for PlainLedger {
+    ghost use Rattle.journal.specs.Plain.{Levels};
+
+    ghost Value = { Levels };
+
+    ghost view = { λ l. record { clock = l.clock; levels = l.levels } };
 }
 
-fn partner_of(made: Record) -> usize
-    ensures { result ≡ partner_of made.connection }
-{
-    made.connection as usize / rules::CONNECTIONS_PER_PARTNER
-}
+impl Ledger for PlainLedger {
+    ghost ledger = { plain_ledger };
 
-// Whether the record contradicts the rules, after those before it. What is filled for it is not kept.
-fn is_contradicted(levels: &[u64], clock: u64, made: Record) -> bool
-    requires { length levels.now ≡ partners }
-    ensures { result ≡ is_contradicted plain_ledger (kept clock levels.now) (as_record made) }
-{
-    if rules::CONNECTION_COUNT as u8 <= made.connection {
-        return true;
+    fn clock(&self) -> u64 {
+        self.clock
     }
-    if made.time < clock {
-        return true;
-    }
-    let level = levels::level_after(levels[partner_of(made)], made.time - clock);
-    replay_parts::contradicts(made, clock, level)
-}
 
-// What a done record leaves: every level filled up to its time, and its partner's less the charge.
-fn settle(levels: &mut [u64], clock: u64, made: Record)
-    requires { Settleable clock levels.old (as_record made) }
-    ensures { kept made.time levels.new ≡ plain_ledger.settle (kept clock levels.old) (as_record made) }
-{
-    levels::fill_for(levels, made.time - clock);
-    let p = partner_of(made);
-    levels[p] = levels[p] - made.charge as u64;
-}
+    // What is filled for it is not kept.
+    fn level(&self, partner: usize, time: u64) -> u64 {
+        levels::level_after(self.levels[partner], time.saturating_sub(self.clock))
+    }
 
-// A record that doesn't contradict is settled, if it is done.
-fn take_record(levels: &mut [u64], clock: u64, made: Record) -> Turn
-    requires { length levels.old ≡ partners }
-    ensures { (result.passed ≡ not (is_contradicted plain_ledger (kept clock levels.old) (as_record made)))
-        × (kept result.clock levels.new
-        ≡ (if result.passed then advance plain_ledger (kept clock levels.old) (as_record made) else kept clock levels.old)) }
-{
-    if is_contradicted(levels, clock, made) {
-        return Turn {
-            passed: false,
-            clock,
-        };
-    }
-    if made.answer != 0 {
-        return Turn {
-            passed: true,
-            clock,
-        };
-    }
-    settle(levels, clock, made);
-    Turn {
-        passed: true,
-        clock: made.time,
-    }
-}
-
-// What stands at a place, if it is a record that doesn't contradict.
-fn take(levels: &mut [u64], clock: u64, journal: &[u8], place: usize) -> Turn
-    requires { length levels.old ≡ partners }
-    ensures { (result.passed ≡ passes plain_ledger journal.now place (kept clock levels.old))
-        × (kept result.clock levels.new ≡ taken plain_ledger journal.now place (kept clock levels.old)) }
-{
-    match journal_records::read(journal, place) {
-        Item::Record(made) => take_record(levels, clock, made),
-        Item::Tail => Turn {
-            passed: false,
-            clock,
-        },
-        Item::End => Turn {
-            passed: false,
-            clock,
-        },
-    }
-}
-
-// All of them, one by one.
-fn judge(levels: &mut [u64], time: u64, journal: &[u8]) -> Judged
-    requires { length levels.old ≡ partners }
-    ensures { (al : List ℕ) (term : ℕ) → outcome_of result.answer al (level_table term (kept result.clock levels.new))
-        ≡ concluded al (as_table term (replay_from plain_ledger (kept time levels.old) journal.now)) }
-{
-    let mut place = 0;
-    let mut clock = time;
-    while place < journal.len() {
-        let turn = take(levels, clock, journal, place);
-        clock = turn.clock;
-        if !turn.passed {
-            return Judged {
-                answer: replay_parts::contradicted(place),
-                clock,
-            };
-        }
-        place += journal_records::RECORD_BYTES;
-    }
-    Judged {
-        answer: replay_parts::agreed(),
-        clock,
+    // Every level is filled up to the record's time, and its partner's is less by the charge.
+    fn settle(&mut self, made: Record) {
+        levels::fill_for(&mut self.levels, made.time - self.clock);
+        let partner = connection_table::partner_of(made.connection);
+        self.levels[partner] -= made.charge as u64;
+        self.clock = made.time;
     }
 }
 
@@ -138,15 +54,18 @@ pub extern "C" fn crondelith_replay_plain(
 ) -> Replayed
     ensures { with_allowances result allowances.new ≡ replay_plain allowances.old journal.now time term }
 {
-    let refusal = replay_parts::refusal(allowances, time, term);
-    if refusal != 0 {
-        return replay_parts::refused(refusal);
+    if let Err(refusal) = replay_parts::check(allowances, time, term) {
+        return replay_parts::refused(refusal.number());
     }
-    let mut levels = [allowance::CAPACITY; rules::PARTNERS];
-    let verdict = judge(&mut levels, time, journal);
-    let answer = verdict.answer;
-    if answer.contradicted == 0 {
-        levels::store_table(allowances, &levels, verdict.clock, term);
+    let mut ledger = PlainLedger {
+        levels: [allowance::CAPACITY; rules::PARTNERS],
+        clock: time,
+    };
+    match replay_parts::judge(&mut ledger, journal) {
+        Ok(()) => {
+            levels::store_table(allowances, &ledger.levels, ledger.clock, term);
+            replay_parts::agreed()
+        }
+        Err(contradiction) => replay_parts::contradicted(contradiction.place),
     }
-    answer
 }

@@ -11,6 +11,7 @@ use lib.ListN.{drop}
 use borrow.Author.Tests.{eqb-true}
 use Rattle.octets.proofs.Tests.{either}
 use Rattle.svsc.specs.Messages.{type_of, encode, decode, from_peer}
+use Rattle.std.specs.Prelude.{Some}
 use Rattle.svsc.specs.Copying.{copied, copy_data}
 use Rattle.svsc.proofs.Copying.{copy_done}
 use Rattle.rules.specs.Sizes.{nobody}
@@ -76,7 +77,7 @@ module _ (tables : Tables) (now c : ℕ) (m random reply relay : List ℕ) where
 
   -- The buffer is what the copying makes of its data, and the answer tells how much that is.
   pub data_copied : Accepted tables sent → type_of m ≡ 11
-      → copy_data (drop 1 m) relay ≡ copied (step tables sent).answer.relay_length (step tables sent).relay
+      → copy_data (drop 1 m) relay ≡ copied (Some (step tables sent).answer.relay_length) (step tables sent).relay
   unfolding encode
   data_copied e t =
       let h = done_passed tables sent e in

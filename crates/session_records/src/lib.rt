@@ -8,21 +8,21 @@ ghost use Rattle.rules.specs.Sizes.{random_bytes};
 ghost use Rattle.rules.specs.Tables.{peer, in_session, has_session};
 ghost use Rattle.rules.specs.Sessions.{join, leave, end_session, establish};
 
+use connection_table::{connection_at, partner_of};
+
 // The connection that a connection names as its peer.
 pub fn peer(connections: &[u8], c: u8) -> u8
     ensures { result ≡ peer connections.now c }
 {
-    octets::byte(
-        connections,
-        rules::CONNECTION_BYTES * c as usize + rules::PEER_AT,
-    )
+    octets::byte(connections, connection_at(c) + rules::PEER_AT)
 }
 
 // Whether two connections are in session: of one partner, not the same, both open, each naming the other.
+#[tactic(auto, unfolding(rules::specs::Tables::in_session))]
 pub fn in_session(connections: &[u8], c: u8, d: u8) -> bool
     ensures { result ≡ in_session connections.now c d }
 {
-    (c as usize / rules::CONNECTIONS_PER_PARTNER == d as usize / rules::CONNECTIONS_PER_PARTNER)
+    (partner_of(c) == partner_of(d))
         & ((c != d)
             & connection_table::is_open(connections, c)
             & connection_table::is_open(connections, d)
@@ -31,6 +31,7 @@ pub fn in_session(connections: &[u8], c: u8, d: u8) -> bool
 }
 
 // Whether a connection has a session: it can only be with the one that it names.
+#[tactic(auto, unfolding(rules::specs::Tables::has_session))]
 pub fn has_session(connections: &[u8], c: u8) -> bool
     ensures { result ≡ has_session connections.now c }
 {
@@ -43,7 +44,7 @@ fn join(connections: &mut [u8], c: u8, other: u8, session: &[u8], pair: &[u8])
     ensures { connections.new
         ≡ join connections.old c other (session.now ++ pair.now) }
 {
-    let at = rules::CONNECTION_BYTES * c as usize;
+    let at = connection_at(c);
     octet_stores::write8(connections, at + rules::PEER_AT, other);
     octet_stores::copy(connections, at + rules::KEYS_AT, session);
     octet_stores::copy(connections, at + rules::KEYS_AT + svsc::KEY, pair);
@@ -62,12 +63,13 @@ pub fn establish(connections: &mut [u8], c: u8, holder: u8, random: &[u8])
 fn leave(connections: &mut [u8], c: u8)
     ensures { connections.new ≡ leave connections.old c }
 {
-    let at = rules::CONNECTION_BYTES * c as usize;
+    let at = connection_at(c);
     octet_stores::write8(connections, at + rules::PEER_AT, rules::NOBODY);
     octet_stores::fill(connections, at + rules::KEYS_AT, rules::KEYS_BYTES, 0);
 }
 
 // Takes the session out of both records.
+#[tactic(auto, unfolding(rules::specs::Sessions::end_session))]
 pub fn end_session(connections: &mut [u8], c: u8, d: u8)
     ensures { connections.new ≡ end_session connections.old c d }
 {

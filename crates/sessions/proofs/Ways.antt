@@ -1,5 +1,5 @@
 -- The ways out of the version answer, the end of a session and data, over plain values. Assumes nothing.
-use Rattle.std.specs.Prelude.{if◌then◌else◌}
+use Rattle.std.specs.Prelude.{if◌then◌else◌, Option, Some, IsSome}
 use Prim.Native.Nat.{ℕ, suc, ◌≤◌, ◌<◌}
 use mathlib.Core.Path.{◌≡◌, refl, ◌∙◌}
 use mathlib.Core.Bool.{Bool, true, false}
@@ -58,7 +58,7 @@ module _ (cs ls al reply relay : List ℕ) (c : ℕ) where
 -- ---- data
 
 -- The data of a message that may be sent is all of it but the type. It was copied whole.
-module _ (m relay bytes : List ℕ) (ok : Sendable m relay) (hd : bytes ≡ drop 1 m) (n : ℕ) (relay' : List ℕ) (e : copied n relay' ≡ copy_data bytes relay) where
+module _ (m relay bytes : List ℕ) (ok : Sendable m relay) (hd : bytes ≡ drop 1 m) (r : Option ℕ) (relay' : List ℕ) (e : copied r relay' ≡ copy_data bytes relay) where
   size : suc (length (drop 1 m)) ≡ length m
   size = by m ok.some
     where
@@ -66,12 +66,19 @@ module _ (m relay bytes : List ℕ) (ok : Sendable m relay) (hd : bytes ≡ drop
       by [] h = absurd (omega arith)
       by (x ∷ xs) h = refl
 
-  pub copied-whole : (n ≡ length (encode (data_receive (drop 1 m)))) × (relay' ≡ put relay 0 (encode (data_receive (drop 1 m))))
-  copied-whole = copied_all (drop 1 m) relay n relay' (rw (← hd) e) (omega (arith, size, ok.room))
+  all : (r ≡ Some (length (encode (data_receive (drop 1 m))))) × (relay' ≡ put relay 0 (encode (data_receive (drop 1 m))))
+  all = copied_all (drop 1 m) relay r relay' (rw (← hd) e) (omega (arith, size, ok.room))
 
-  pub copied-short : n ≤ longest_message
-  unfolding encode
-  copied-short = omega (arith, copied-whole.0, size, ok.short)
+  pub was-copied : IsSome r
+  was-copied = rw all.0
+
+  module _ (n : ℕ) (told : r ≡ Some n) where
+    pub copied-whole : (n ≡ length (encode (data_receive (drop 1 m)))) × (relay' ≡ put relay 0 (encode (data_receive (drop 1 m))))
+    copied-whole = let same = all.0 in (cc, all.1)
+
+    pub copied-short : n ≤ longest_message
+    unfolding encode
+    copied-short = omega (arith, copied-whole.0, size, ok.short)
 
 -- the data was copied, and goes to d
 pub sent_on : (cs ls al reply relay bytes : List ℕ) (d n : ℕ) (r : Answer) (relay' : List ℕ)

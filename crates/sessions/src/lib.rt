@@ -31,8 +31,8 @@ pub fn end(connections: &mut [u8], c: u8, other: u8, relay: &mut [u8]) -> Answer
         ≡ applied (plan_end (lent connections.old ls al) c other) reply relay.old }
 {
     session_records::end_session(connections, c, other);
-    let sent = svsc_session_writers::svsc_write_session_end_notification(relay);
-    answers::relayed(sent.length as u32, other)
+    let sent = svsc_session_writers::svsc_write_session_end_notification(relay).unwrap();
+    answers::relayed(sent as u32, other)
 }
 
 // The same of a connection that may have no session.
@@ -57,6 +57,6 @@ pub fn send(m: &[u8], other: u8, relay: &mut [u8]) -> Answer
         ≡ applied (plan_data (lent cs ls al) other (drop 1 m.now)) reply relay.old }
 {
     let bytes = octets::after(m, 1);
-    let sent = data_copy::copy(relay, bytes);
-    answers::relayed(sent as u32, other)
+    let copied = data_copy::copy(relay, bytes).unwrap();
+    answers::relayed(copied as u32, other)
 }

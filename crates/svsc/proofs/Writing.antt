@@ -10,11 +10,11 @@ use Rattle.svsc.specs.Messages.{Message, well_formed, encode}
 use Rattle.svsc.specs.Writing.{WriteOutcome, emit, write}
 
 module _ (bytes buffer : List ℕ) where
-  pub out_of_range : (fits : Bool) → not fits ≡ true → record { number = 6; length = 0; buffer = buffer } ≡ emit fits bytes buffer
+  pub out_of_range : (fits : Bool) → fits ≡ false → record { number = 6; length = 0; buffer = buffer } ≡ emit fits bytes buffer
   unfolding emit
   out_of_range fits f = rw f
 
-  module _ (fits : Bool) (f : not fits ≡ false) where
+  module _ (fits : Bool) (f : fits ≡ true) where
     pub too_short_lem : length buffer < length bytes → record { number = 5; length = 0; buffer = buffer } ≡ emit fits bytes buffer
     unfolding emit
     too_short_lem l = rw (f, lt-ltb (length buffer) (length bytes) l)

@@ -131,5 +131,5 @@ read_back x buffer e = by (well_formed x) (ltb (length buffer) (length (encode x
     by true false w s =
         rw (w, s) (ap decode (part-put buffer 0 (encode x) (omega (arith, ltb-false (length buffer) (length (encode x)) s))) ∙ decode-encode x w)
     by true true w s =
-        let z : ◌≡◌ {A = ℕ} 5 0 = ap number_of (too_short_lem (encode x) buffer (well_formed x) (ap not w) (ltb-true _ _ s)) ∙ e in absurd (omega arith)
-    by false s w t = let z : ◌≡◌ {A = ℕ} 6 0 = ap number_of (out_of_range (encode x) buffer (well_formed x) (ap not w)) ∙ e in absurd (omega arith)
+        let z : ◌≡◌ {A = ℕ} 5 0 = ap number_of (too_short_lem (encode x) buffer (well_formed x) w (ltb-true _ _ s)) ∙ e in absurd (omega arith)
+    by false s w t = let z : ◌≡◌ {A = ℕ} 6 0 = ap number_of (out_of_range (encode x) buffer (well_formed x) w) ∙ e in absurd (omega arith)

@@ -1,8 +1,10 @@
 -- What a writer leaves. 01 'Messages, by first byte', 'Answer numbers and their order'.
-use Rattle.std.specs.Prelude.{ℕ, Bool, not, List, length, ltb, if◌then◌else◌}
+use Rattle.std.specs.Prelude.{ℕ, Bool, not, List, length, ltb, if◌then◌else◌, Result, Ok, Err}
 use Rattle.octets.specs.Octets.{put}
 use Rattle.svsc.specs.Messages.{Message, encode, well_formed}
 use Rattle.svsc.specs.declared.Written.{Written}
+use Rattle.svsc.specs.declared.Refused.{Refused}
+use Rattle.svsc.specs.declared.Refused.TheVariants as case
 
 -- the number, how many bytes were written, and the buffer afterwards
 pub record WriteOutcome : Type 0 where
@@ -24,3 +26,13 @@ write m buffer = emit (well_formed m) (encode m) buffer
 -- a writer's answer, with the buffer that it leaves
 abbrev pub written : Written → List ℕ → WriteOutcome
 written w buffer = record { number = w.number; length = w.length; buffer = buffer }
+
+-- "its reader refuses with 6 whatever the table hasn't got", "its writer refuses a field outside its range (6) before a tray too short for the message (5)"
+abbrev pub number_of : Refused → ℕ
+number_of case.Malformed = 6
+number_of case.NoRoom = 5
+
+-- what a writer answers, as C has it: how many bytes were written, or the number of what refuses it
+abbrev pub as_written : Result ℕ Refused → Written
+as_written (Ok n) = record { number = 0; length = n }
+as_written (Err r) = record { number = number_of r; length = 0 }

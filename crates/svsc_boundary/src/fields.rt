@@ -1,14 +1,16 @@
 // The fields of bytes of a message: parts of the bytes that were read, and copied out for C.
 ghost use Rattle.std.specs.Prelude.{◌≡◌, true, [], ◌∷◌, ◌+◌, ◌≤◌, get_or, drop};
+ghost use Rattle.std.proofs.Math.Option.{some};
 ghost use Rattle.octets.specs.Octets.{part};
 ghost use Rattle.svsc.specs.Messages.{decode, cookie_bytes, key_bytes};
-ghost use Rattle.svsc.specs.Writing.{emit, written};
-ghost use Rattle.svsc_decoded.specs.Reading.{meaning};
+ghost use Rattle.svsc.specs.Writing.{emit, written, as_written};
+ghost use Rattle.svsc_decoded.specs.Reading.{message_of};
 ghost use Rattle.svsc_boundary.specs.Boundary.{field_of, copy_field};
 
-use svsc::Written;
+use svsc::{Refused, Written};
 use svsc_decoded::Decoded;
 
+// C names a field by its number. Any u32 may come, and one past these names none, so they stay numbers.
 const FIELD_COOKIE: u32 = 0;
 
 const FIELD_SESSION: u32 = 1;
@@ -58,7 +60,7 @@ fn data_of(m: &[u8], f: u32) -> &[u8]
 
 // A field of bytes of the message that was read from m: nothing where the message hasn't got it.
 fn field(m: &[u8], d: Decoded, f: u32) -> &[u8]
-    ensures { result.now ≡ field_of f (meaning d m.now).message }
+    ensures { result.now ≡ field_of f (some (message_of d m.now)) }
 {
     match d {
         Decoded::LeaseRequestWithCookie => cookie_at(m, 2, f),
@@ -76,19 +78,22 @@ fn field(m: &[u8], d: Decoded, f: u32) -> &[u8]
 }
 
 // Bytes at the start of a buffer, if it has room for them.
-fn store(buffer: &mut [u8], bytes: &[u8]) -> Written
-    ensures { written result buffer.new ≡ emit true bytes.now buffer.old }
+fn store(buffer: &mut [u8], bytes: &[u8]) -> Result<usize, Refused>
+    ensures { written (as_written result) buffer.new ≡ emit true bytes.now buffer.old }
 {
     if buffer.len() < bytes.len() {
-        return Written {
-            number: 5,
-            length: 0,
-        };
+        return Err(Refused::NoRoom);
     }
     octet_stores::copy(buffer, 0, bytes);
-    Written {
-        number: 0,
-        length: bytes.len(),
+    Ok(bytes.len())
+}
+
+fn copy_field(message: &[u8], f: u32, buffer: &mut [u8]) -> Result<usize, Refused>
+    ensures { written (as_written result) buffer.new ≡ copy_field f (decode message.now) buffer.old }
+{
+    match svsc_reader::read(message) {
+        Some(d) => store(buffer, field(message, d, f)),
+        None => Err(Refused::Malformed),
     }
 }
 
@@ -97,12 +102,5 @@ fn store(buffer: &mut [u8], bytes: &[u8]) -> Written
 pub extern "C" fn svsc_field(message: &[u8], f: u32, buffer: &mut [u8]) -> Written
     ensures { written result buffer.new ≡ copy_field f (decode message.now) buffer.old }
 {
-    let d = svsc_reader::read(message);
-    if let Decoded::Malformed = d {
-        return Written {
-            number: 6,
-            length: 0,
-        };
-    }
-    store(buffer, field(message, d, f))
+    copy_field(message, f, buffer).into()
 }

@@ -2,7 +2,8 @@
 use Prim.Native.Nat.{ℕ, ◌+◌, ◌≤◌, ◌<◌}
 use mathlib.Core.Path.{◌≡◌, refl, sym, ap, ◌∙◌}
 use mathlib.Core.Bool.{Bool, true, false, ◌&&◌}
-use mathlib.Core.Option.{Option, none, some}
+use mathlib.Core.Option.{none, some}
+use mathlib.Core.Option as math
 use mathlib.Core.List.{List, [], ◌∷◌}
 use native.Mathlib.Omega.{arith}
 use lib.Dec.{eqb, leb}
@@ -12,17 +13,19 @@ use Rattle.octets.specs.Octets.{byte_at, part, number_at}
 use Rattle.octets.proofs.Tests.{both_left}
 use Rattle.octets.proofs.Parts.{part-three}
 use Rattle.svsc.specs.Messages.{Message, lease_request, lease_request_with_cookie, lease_refused, lease_granted, extension_refused, extension_granted, establish_refused, established, type_of, when, ◌or_else◌, readings, decode, is_digit, are_digits}
-use Rattle.svsc_decoded.specs.Reading.{answer, meaning, only_if}
+use Rattle.std.specs.Prelude.{Option, Some, None}
+use Rattle.std.specs.Bool.{then_some}
+use Rattle.std.specs.Option.{option_copied}
+use Rattle.std.specs.List.{slice_get}
+use denote.Bor.{Bor}
+use Rattle.svsc_decoded.specs.Reading.{answer, meaning, message_of}
 use Rattle.svsc_decoded.specs.declared.Decoded.{Decoded}
 
 -- bytes of the type t: their row of the table
 module _ (m : List ℕ) (t : ℕ) (ht : type_of m ≡ t) where
-  row : (x : Option Message) → get_or (readings m) t none ≡ x → answer x ≡ answer (decode m)
+  row : (x : math.Option Message) → get_or (readings m) t none ≡ x → answer x ≡ answer (decode m)
   unfolding decode
   row x e = ap answer (sym (rw ht e))
-
-  pub malformed : get_or (readings m) t none ≡ none → answer none ≡ answer (decode m)
-  malformed e = row none e
 
   -- one form
   pub taken : (x : Message) (fits : Bool) → get_or (readings m) t none ≡ when fits x → fits ≡ true → answer (some x) ≡ answer (decode m)
@@ -31,25 +34,13 @@ module _ (m : List ℕ) (t : ℕ) (ht : type_of m ≡ t) where
   pub refused : (x : Message) (fits : Bool) → get_or (readings m) t none ≡ when fits x → fits ≡ false → answer none ≡ answer (decode m)
   refused x fits e f = row none (e ∙ rw f)
 
-  pub single : (fits : Bool) (d r : Decoded) (x : Message) → r ≡ only_if fits d → meaning d m ≡ answer (some x)
-      → get_or (readings m) t none ≡ when fits x → meaning r m ≡ answer (decode m)
-  single true d r x e s f = rw (e, s) (row (some x) f)
-  single false d r x e s f = rw e (row none f)
-
-  -- the same where the length alone decides
-  pub by_length : (test : ℕ → Bool) (d r : Decoded) (x : Message) → r ≡ only_if (test (length m)) d → meaning d m ≡ answer (some x)
-      → get_or (readings m) t none ≡ when (test (length m)) x → meaning r m ≡ answer (decode m)
-  by_length test d r x e s f = single (test (length m)) d r x e s f
-
--- two forms, told apart by the tests a and b
+-- two forms, told apart by the tests a and b, where it is not the first
 pub record TwoForms (m : List ℕ) (a b : Bool) (x y : Message) : Type 0 where
-  pub first : a ≡ true → answer (some x) ≡ answer (decode m)
   pub second : a ≡ false → b ≡ true → answer (some y) ≡ answer (decode m)
   pub neither : a ≡ false → b ≡ false → answer none ≡ answer (decode m)
 
 two_forms : (m : List ℕ) (t : ℕ) → type_of m ≡ t → (a b : Bool) (x y : Message) → get_or (readings m) t none ≡ (when a x or_else when b y) → TwoForms m a b x y
 two_forms m t ht a b x y e = record {
-  first = λ h. row m t ht (some x) (e ∙ rw h);
   second = λ h k. row m t ht (some y) (e ∙ rw (h, k));
   neither = λ h k. row m t ht none (e ∙ rw (h, k));
 }
@@ -77,27 +68,15 @@ module _ (m : List ℕ) (flag : ℕ) where
   unfolding readings
   establish_response ht hf = rw hf (two_forms m 7 ht _ _ _ _ refl)
 
--- what a test of a form's length shows of a place in it
-pub reaches : (n whole k : ℕ) (b : Bool) → eqb n whole && b ≡ true → k ≤ whole → k ≤ n
-reaches n whole k b h l = let e : n ≡ whole = eqb-true n whole (both_left _ _ h) in omega arith
-
-pub reaches_two : (n whole k : ℕ) (a b : Bool) → eqb n whole && a && b ≡ true → k ≤ whole → k ≤ n
-reaches_two n whole k a b h l = reaches n whole k a (both_left _ _ h) l
-
 -- the first byte of some bytes is their type
-pub type_first : (m : List ℕ) (k : ℕ) → (length m ≡ 0 → ⊥) → get_or m 0 0 ≡ k → type_of m ≡ k
-type_first [] k n e = absurd (n refl)
-type_first (x ∷ xs) k n e = e
+pub type_first : (m : List ℕ) (first : Option (Bor ℕ)) (kind : Bor ℕ) (k : ℕ) → option_copied first ≡ slice_get m 0 → first ≡ Some kind → kind.now ≡ k → type_of m ≡ k
+type_first [] first kind k e f h = let none : Some kind.now ≡ None = rw f at e in cc
+type_first (x ∷ xs) first kind k e f h = let same-byte : Some kind.now ≡ Some x = rw f at e in cc
 
-pub no_type : (m : List ℕ) → length m ≡ 0 → answer none ≡ answer (decode m)
+pub no_type : (m : List ℕ) (first : Option (Bor ℕ)) → option_copied first ≡ slice_get m 0 → first ≡ None → answer none ≡ answer (decode m)
 unfolding decode readings
-no_type [] h = refl
-no_type (x ∷ xs) h = absurd (omega arith)
-
--- types past 13
-pub past_types : (m : List ℕ) (k : ℕ) → 14 ≤ k → get_or (readings m) k none ≡ none
-unfolding readings
-past_types m k h = get_or-eq_default (readings m) none h
+no_type [] first e f = refl
+no_type (x ∷ xs) first e f = let none : None ≡ Some x = rw f at e in cc
 
 pub three-digits : (m : List ℕ) (at : ℕ) → at + 3 ≤ length m
     → are_digits (part m at 3) ≡ is_digit (get_or m at 0) && is_digit (get_or m (at + 1) 0) && is_digit (get_or m (at + 2) 0)

@@ -1,9 +1,6 @@
 // What the reader of the messages answers. What each case means is in specs/Reading.antt, how a caller uses it in proofs/Cases.antt.
 #![tactic(auto)]
 
-ghost use Rattle.std.specs.Prelude.{◌≡◌};
-ghost use Rattle.svsc_decoded.specs.Reading.{only_if};
-
 // What bytes are: a case for each form of a message, with its numbers; its fields of bytes are parts of the bytes that were read.
 #[derive(Clone, Copy)]
 pub enum Decoded {
@@ -25,15 +22,4 @@ pub enum Decoded {
     DataSend,
     DataReceive,
     Keepalive,
-    Malformed,
-}
-
-// A message of one form.
-pub fn only(fits: bool, d: Decoded) -> Decoded
-    ensures { result ≡ only_if fits d }
-{
-    if fits {
-        return d;
-    }
-    Decoded::Malformed
 }

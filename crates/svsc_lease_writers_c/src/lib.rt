@@ -12,21 +12,21 @@ use svsc::Written;
 pub extern "C" fn svsc_write_lease_request(buffer: &mut [u8]) -> Written
     ensures { written result buffer.new ≡ write lease_request buffer.old }
 {
-    svsc_lease_writers::svsc_write_lease_request(buffer)
+    svsc_lease_writers::svsc_write_lease_request(buffer).into()
 }
 
 #[unsafe(no_mangle)]
 pub extern "C" fn svsc_write_lease_request_with_cookie(buffer: &mut [u8], cookie: &[u8]) -> Written
     ensures { written result buffer.new ≡ write (lease_request_with_cookie cookie.now) buffer.old }
 {
-    svsc_lease_writers::svsc_write_lease_request_with_cookie(buffer, cookie)
+    svsc_lease_writers::svsc_write_lease_request_with_cookie(buffer, cookie).into()
 }
 
 #[unsafe(no_mangle)]
 pub extern "C" fn svsc_write_lease_refused(buffer: &mut [u8]) -> Written
     ensures { written result buffer.new ≡ write lease_refused buffer.old }
 {
-    svsc_lease_writers::svsc_write_lease_refused(buffer)
+    svsc_lease_writers::svsc_write_lease_refused(buffer).into()
 }
 
 #[unsafe(no_mangle)]
@@ -38,26 +38,26 @@ pub extern "C" fn svsc_write_lease_granted(
 ) -> Written
     ensures { written result buffer.new ≡ write (lease_granted id cookie.now expiration) buffer.old }
 {
-    svsc_lease_writers::svsc_write_lease_granted(buffer, id, cookie, expiration)
+    svsc_lease_writers::svsc_write_lease_granted(buffer, id, cookie, expiration).into()
 }
 
 #[unsafe(no_mangle)]
 pub extern "C" fn svsc_write_extension_request(buffer: &mut [u8], cookie: &[u8]) -> Written
     ensures { written result buffer.new ≡ write (extension_request cookie.now) buffer.old }
 {
-    svsc_lease_writers::svsc_write_extension_request(buffer, cookie)
+    svsc_lease_writers::svsc_write_extension_request(buffer, cookie).into()
 }
 
 #[unsafe(no_mangle)]
 pub extern "C" fn svsc_write_extension_refused(buffer: &mut [u8]) -> Written
     ensures { written result buffer.new ≡ write extension_refused buffer.old }
 {
-    svsc_lease_writers::svsc_write_extension_refused(buffer)
+    svsc_lease_writers::svsc_write_extension_refused(buffer).into()
 }
 
 #[unsafe(no_mangle)]
 pub extern "C" fn svsc_write_extension_granted(buffer: &mut [u8], expiration: u64) -> Written
     ensures { written result buffer.new ≡ write (extension_granted expiration) buffer.old }
 {
-    svsc_lease_writers::svsc_write_extension_granted(buffer, expiration)
+    svsc_lease_writers::svsc_write_extension_granted(buffer, expiration).into()
 }

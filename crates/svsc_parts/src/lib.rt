@@ -3,30 +3,15 @@
 
 ghost use Rattle.std.specs.Prelude.{◌≡◌, ◌∷◌, ◌++◌, ◌+◌, ◌≤◌, length, leb};
 ghost use Rattle.octets.specs.Octets.{put};
-ghost use Rattle.svsc.specs.Writing.{emit, written};
+ghost use Rattle.svsc.specs.Writing.{emit, written, as_written};
 
-use svsc::Written;
+use svsc::Refused;
 
-// Whether n bytes have room for one byte and four parts.
+// Whether n bytes have room for one byte and four parts. Of 128 bits, so that no sum wraps.
 fn room(n: usize, a: usize, b: usize, c: usize, d: usize) -> bool
     ensures { result ≡ leb (1 + a + b + c + d) n }
 {
-    if n < 1 {
-        return false;
-    }
-    let after = n - 1;
-    if after < a {
-        return false;
-    }
-    let after_a = after - a;
-    if after_a < b {
-        return false;
-    }
-    let after_b = after_a - b;
-    if after_b < c {
-        return false;
-    }
-    d <= after_b - c
+    1 + a as u128 + b as u128 + c as u128 + d as u128 <= n as u128
 }
 
 // A type and four parts, one behind the other. The room is there, so no sum of lengths wraps.
@@ -49,6 +34,7 @@ fn place(buffer: &mut [u8], kind: u8, a: &[u8], b: &[u8], c: &[u8], d: &[u8]) ->
 }
 
 // The one way to write: a type and four parts, if the fields are in their ranges and the buffer has room.
+#[tactic(auto, unfolding(svsc::specs::Writing::emit))]
 pub fn put_parts(
     buffer: &mut [u8],
     fits: bool,
@@ -57,32 +43,22 @@ pub fn put_parts(
     b: &[u8],
     c: &[u8],
     d: &[u8],
-) -> Written
-    ensures { written result buffer.new
+) -> Result<usize, Refused>
+    ensures { written (as_written result) buffer.new
         ≡ emit fits (kind ∷ (a.now ++ (b.now ++ (c.now ++ d.now)))) buffer.old }
 {
     if !fits {
-        return Written {
-            number: 6,
-            length: 0,
-        };
+        return Err(Refused::Malformed);
     }
     if !room(buffer.len(), a.len(), b.len(), c.len(), d.len()) {
-        return Written {
-            number: 5,
-            length: 0,
-        };
+        return Err(Refused::NoRoom);
     }
-    let length = place(buffer, kind, a, b, c, d);
-    Written {
-        number: 0,
-        length: length,
-    }
+    Ok(place(buffer, kind, a, b, c, d))
 }
 
 // The same with one part.
-pub fn put_part(buffer: &mut [u8], fits: bool, kind: u8, a: &[u8]) -> Written
-    ensures { written result buffer.new ≡ emit fits (kind ∷ a.now) buffer.old }
+pub fn put_part(buffer: &mut [u8], fits: bool, kind: u8, a: &[u8]) -> Result<usize, Refused>
+    ensures { written (as_written result) buffer.new ≡ emit fits (kind ∷ a.now) buffer.old }
 {
     put_parts(buffer, fits, kind, a, b"", b"", b"")
 }

@@ -7,14 +7,11 @@ ghost use Rattle.svsc_decoded.specs.Reading.{answer, meaning};
 
 use svsc_decoded::Decoded;
 
-// What the bytes are: a message, or Malformed, which is the number 6.
-pub fn read(m: &[u8]) -> Decoded
+// What the bytes are, if they are a message; None is the number 6.
+pub fn read(m: &[u8]) -> Option<Decoded>
     ensures { meaning result m.now ≡ answer (decode m.now) }
 {
-    if m.len() == 0 {
-        return Decoded::Malformed;
-    }
-    let kind = m[0];
+    let kind = *m.first()?;
     match kind {
         0 => svsc_version_readers::version(m),
         1 => svsc_version_readers::version_answer(m),
@@ -29,14 +26,11 @@ pub fn read(m: &[u8]) -> Decoded
 }
 
 // Whether the bytes are a message.
+#[tactic(auto, using(svsc_decoded::proofs::Cases::is_read))]
 pub fn is_message(m: &[u8]) -> bool
     ensures { result ≡ is_some (decode m.now) }
 {
-    let d = read(m);
-    if let Decoded::Malformed = d {
-        return false;
-    }
-    true
+    read(m).is_some()
 }
 
 // The types that peers send.
@@ -47,18 +41,12 @@ const SENT_BY_PEERS: [bool; 14] = [
 fn sent_by_peers(kind: usize) -> bool
     ensures { result ≡ get_or sent_by_peers kind false }
 {
-    if kind < 14 {
-        return SENT_BY_PEERS[kind];
-    }
-    false
+    SENT_BY_PEERS.get(kind).copied().unwrap_or(false)
 }
 
 // Whether the bytes are a message that peers send.
 pub fn from_peer(m: &[u8]) -> bool
     ensures { result ≡ from_peer m.now }
 {
-    if is_message(m) {
-        return sent_by_peers(octets::byte(m, 0) as usize);
-    }
-    false
+    is_message(m) && sent_by_peers(octets::byte(m, 0) as usize)
 }

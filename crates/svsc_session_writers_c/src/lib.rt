@@ -12,14 +12,14 @@ use svsc::Written;
 pub extern "C" fn svsc_write_establish_request(buffer: &mut [u8], id: u32) -> Written
     ensures { written result buffer.new ≡ write (establish_request id) buffer.old }
 {
-    svsc_session_writers::svsc_write_establish_request(buffer, id)
+    svsc_session_writers::svsc_write_establish_request(buffer, id).into()
 }
 
 #[unsafe(no_mangle)]
 pub extern "C" fn svsc_write_establish_refused(buffer: &mut [u8], id: u32, status: u8) -> Written
     ensures { written result buffer.new ≡ write (establish_refused id status) buffer.old }
 {
-    svsc_session_writers::svsc_write_establish_refused(buffer, id, status)
+    svsc_session_writers::svsc_write_establish_refused(buffer, id, status).into()
 }
 
 #[unsafe(no_mangle)]
@@ -33,7 +33,7 @@ pub extern "C" fn svsc_write_established(
     ensures { written result buffer.new
         ≡ write (established id session.now peer.now key.now) buffer.old }
 {
-    svsc_session_writers::svsc_write_established(buffer, id, session, peer, key)
+    svsc_session_writers::svsc_write_established(buffer, id, session, peer, key).into()
 }
 
 #[unsafe(no_mangle)]
@@ -46,40 +46,40 @@ pub extern "C" fn svsc_write_establish_notification(
     ensures { written result buffer.new
         ≡ write (establish_notification session.now peer.now key.now) buffer.old }
 {
-    svsc_session_writers::svsc_write_establish_notification(buffer, session, peer, key)
+    svsc_session_writers::svsc_write_establish_notification(buffer, session, peer, key).into()
 }
 
 #[unsafe(no_mangle)]
 pub extern "C" fn svsc_write_session_end(buffer: &mut [u8]) -> Written
     ensures { written result buffer.new ≡ write session_end buffer.old }
 {
-    svsc_session_writers::svsc_write_session_end(buffer)
+    svsc_session_writers::svsc_write_session_end(buffer).into()
 }
 
 #[unsafe(no_mangle)]
 pub extern "C" fn svsc_write_session_end_notification(buffer: &mut [u8]) -> Written
     ensures { written result buffer.new ≡ write session_end_notification buffer.old }
 {
-    svsc_session_writers::svsc_write_session_end_notification(buffer)
+    svsc_session_writers::svsc_write_session_end_notification(buffer).into()
 }
 
 #[unsafe(no_mangle)]
 pub extern "C" fn svsc_write_data_send(buffer: &mut [u8], bytes: &[u8]) -> Written
     ensures { written result buffer.new ≡ write (data_send bytes.now) buffer.old }
 {
-    svsc_session_writers::svsc_write_data_send(buffer, bytes)
+    svsc_session_writers::svsc_write_data_send(buffer, bytes).into()
 }
 
 #[unsafe(no_mangle)]
 pub extern "C" fn svsc_write_data_receive(buffer: &mut [u8], bytes: &[u8]) -> Written
     ensures { written result buffer.new ≡ write (data_receive bytes.now) buffer.old }
 {
-    svsc_session_writers::svsc_write_data_receive(buffer, bytes)
+    svsc_session_writers::svsc_write_data_receive(buffer, bytes).into()
 }
 
 #[unsafe(no_mangle)]
 pub extern "C" fn svsc_write_keepalive(buffer: &mut [u8]) -> Written
     ensures { written result buffer.new ≡ write keepalive_message buffer.old }
 {
-    svsc_session_writers::svsc_write_keepalive(buffer)
+    svsc_session_writers::svsc_write_keepalive(buffer).into()
 }

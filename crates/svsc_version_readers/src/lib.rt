@@ -6,7 +6,7 @@ ghost use Rattle.octets.specs.Octets.{part};
 ghost use Rattle.svsc.specs.Messages.{type_of, decode, is_digit, are_digits, is_version};
 ghost use Rattle.svsc_decoded.specs.Reading.{answer, meaning};
 
-use svsc_decoded::{Decoded, only};
+use svsc_decoded::Decoded;
 
 fn is_digit(x: u8) -> bool
     ensures { result ≡ is_digit x }
@@ -49,29 +49,27 @@ fn is_version(m: &[u8]) -> bool
         & are_digits(m, 10)
 }
 
-pub fn version(m: &[u8]) -> Decoded
+pub fn version(m: &[u8]) -> Option<Decoded>
     requires { type_of m.now ≡ 0 }
     ensures { meaning result m.now ≡ answer (decode m.now) }
 {
     if m.len() != 13 {
-        return Decoded::Malformed;
+        return None;
     }
-    if is_version(m) {
-        return Decoded::Version {
-            major: three(m[6], m[7], m[8]),
-            minor: three(m[10], m[11], m[12]),
-        };
+    if !is_version(m) {
+        return None;
     }
-    Decoded::Malformed
+    Some(Decoded::Version {
+        major: three(m[6], m[7], m[8]),
+        minor: three(m[10], m[11], m[12]),
+    })
 }
 
-pub fn version_answer(m: &[u8]) -> Decoded
+#[tactic(auto, unfolding(svsc::specs::Messages::decode, svsc::specs::Messages::readings))]
+pub fn version_answer(m: &[u8]) -> Option<Decoded>
     requires { type_of m.now ≡ 1 }
     ensures { meaning result m.now ≡ answer (decode m.now) }
 {
     let ok = octets::byte(m, 1);
-    only(
-        (m.len() == 2) & (ok <= 1),
-        Decoded::VersionAnswer { ok: ok },
-    )
+    ((m.len() == 2) & (ok <= 1)).then_some(Decoded::VersionAnswer { ok })
 }

@@ -1,11 +1,11 @@
 // The writers of types 0 and 1, the versions: a function for each form, for svsc_version_writers_c and the crates above.
-#![tactic(auto)]
+#![tactic(auto, unfolding(svsc::specs::Writing::write, svsc::specs::Messages::encode, svsc::specs::Messages::well_formed))]
 
 ghost use Rattle.std.specs.Prelude.{◌≡◌};
 ghost use Rattle.svsc.specs.Messages.{digits, protocol_version, version_answer};
-ghost use Rattle.svsc.specs.Writing.{write, written};
+ghost use Rattle.svsc.specs.Writing.{write, written, as_written};
 
-use svsc::Written;
+use svsc::Refused;
 use svsc_parts::{put_part, put_parts};
 
 // Three digits of a number.
@@ -19,8 +19,8 @@ fn digits(n: u16) -> [u8; 3]
     ]
 }
 
-pub fn svsc_write_version(buffer: &mut [u8], major: u16, minor: u16) -> Written
-    ensures { written result buffer.new ≡ write (protocol_version major minor) buffer.old }
+pub fn svsc_write_version(buffer: &mut [u8], major: u16, minor: u16) -> Result<usize, Refused>
+    ensures { written (as_written result) buffer.new ≡ write (protocol_version major minor) buffer.old }
 {
     let xxx = digits(major);
     let yyy = digits(minor);
@@ -35,8 +35,8 @@ pub fn svsc_write_version(buffer: &mut [u8], major: u16, minor: u16) -> Written
     )
 }
 
-pub fn svsc_write_version_answer(buffer: &mut [u8], ok: u8) -> Written
-    ensures { written result buffer.new ≡ write (version_answer ok) buffer.old }
+pub fn svsc_write_version_answer(buffer: &mut [u8], ok: u8) -> Result<usize, Refused>
+    ensures { written (as_written result) buffer.new ≡ write (version_answer ok) buffer.old }
 {
     put_part(buffer, ok <= 1, 1, &[ok])
 }

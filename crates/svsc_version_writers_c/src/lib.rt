@@ -11,12 +11,12 @@ use svsc::Written;
 pub extern "C" fn svsc_write_version(buffer: &mut [u8], major: u16, minor: u16) -> Written
     ensures { written result buffer.new ≡ write (protocol_version major minor) buffer.old }
 {
-    svsc_version_writers::svsc_write_version(buffer, major, minor)
+    svsc_version_writers::svsc_write_version(buffer, major, minor).into()
 }
 
 #[unsafe(no_mangle)]
 pub extern "C" fn svsc_write_version_answer(buffer: &mut [u8], ok: u8) -> Written
     ensures { written result buffer.new ≡ write (version_answer ok) buffer.old }
 {
-    svsc_version_writers::svsc_write_version_answer(buffer, ok)
+    svsc_version_writers::svsc_write_version_answer(buffer, ok).into()
 }

@@ -3,4 +3,4 @@ use Rattle.allowance_table.proofs.Buckets.{stored}
 use Rattle.allowance_table.proofs.store.Goals as goal
 
 pub returns : goal.returns
-returns c = stored _ _ _ _ _ _ c.write64.ensures c.write64-2.ensures
+returns c = stored _ _ _ _ _ _ c.write.ensures c.write-2.ensures

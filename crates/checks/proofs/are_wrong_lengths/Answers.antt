@@ -4,4 +4,4 @@ use Rattle.checks.proofs.are_wrong_lengths.Goals as goal
 
 pub returns : goal.returns
 unfolding wrong_lengths
-returns c time k reply relay e f = rw (c.larger-least.ensures, e, f)
+returns c time k reply relay e f = rw (c.max-least.ensures, e, f)

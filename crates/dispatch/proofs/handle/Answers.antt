@@ -2,36 +2,8 @@
 use Rattle.rules.specs.Tables.{lent}
 use Rattle.rules.specs.Plans.{plan_decided}
 use Rattle.answers.proofs.Ways.{nothing-done}
-use Rattle.dispatch.proofs.Ways.{feasible_in, as_decided}
+use Rattle.dispatch.proofs.Ways.{as_decided}
 use Rattle.dispatch.proofs.handle.Goals as goal
-
-pub lease-requires : goal.lease-requires
-lease-requires c =
-    let p = c.requires.0 in (
-      record { size = p.size; allowances = p.allowances; known = p.known; timely = p.timely; room = p.reply_room },
-      p.random_size,
-      feasible_in c.args.random.now c.args.m.now c.args.decision c.in-Lease.is c.requires.1,
-    )
-
-pub extend-requires : goal.extend-requires
-extend-requires c =
-    let p = c.requires.0 in
-    record { size = p.size; allowances = p.allowances; known = p.known; timely = p.timely; room = p.reply_room }
-
-pub establish-requires : goal.establish-requires
-establish-requires c =
-    let p = c.requires.0 in (
-      record { random_size = p.random_size; reply_room = p.reply_room; relay_room = p.relay_room },
-      feasible_in c.args.random.now c.args.m.now c.args.decision c.in-Establish.is c.requires.1,
-    )
-
-pub end-requires : goal.end-requires
-end-requires c = c.requires.0.relay_room
-
-pub send-requires : goal.send-requires
-send-requires c =
-    let p = c.requires.0 in
-    record { some = p.message_some; short = p.message_short; room = p.message_room }
 
 pub returns-in-AnswerVersion : goal.returns-in-AnswerVersion
 unfolding plan_decided

@@ -1,15 +1,24 @@
 -- `refuse`: the status, written.
 use native.Mathlib.Omega.{arith}
 use Rattle.svsc.specs.Messages.{establish_refused}
-use Rattle.answers.proofs.Writes.{sent-length, sent-buffer, written-short}
+use Rattle.answers.proofs.Writes.{sent_ok, sent-length, sent-buffer, written-short}
 use Rattle.establishing.proofs.Ways.{status_ranges, status_length, session_refused}
 use Rattle.establishing.proofs.refuse.Goals as goal
 
+pub unwrap-sent-requires : goal.unwrap-sent-requires
+unwrap-sent-requires c =
+    let a = c.args in
+    sent_ok (establish_refused a.id a.status) a.reply.now _ _ c.svsc_write_establish_refused.ensures
+    (status_ranges a.id a.status c.ranges.id.fits c.requires.0 c.requires.1) (omega (arith, c.requires.2, status_length a.id a.status))
+
 pub overflow_cast-sent : goal.overflow_cast-sent
-overflow_cast-sent c = omega (arith, written-short _ _ _ c.svsc_write_establish_refused-sent.ensures)
+overflow_cast-sent c = omega (arith, written-short _ _ _ _ c.svsc_write_establish_refused.ensures _ c.unwrap-sent.ensures)
 
 pub returns : goal.returns
 returns c cs ls al random relay k =
-    session_refused cs ls al c.args.reply.now relay k c.args.id random c.args.status _ _ _ (sent-length (establish_refused c.args.id c.args.status) c.args.reply.now _ c.svsc_write_establish_refused-sent.ensures
-    (status_ranges c.args.id c.args.status c.ranges.id.fits c.requires.0 c.requires.1) (omega (arith, c.requires.2, status_length c.args.id c.args.status))) (sent-buffer (establish_refused c.args.id c.args.status) c.args.reply.now _ c.svsc_write_establish_refused-sent.ensures
-    (status_ranges c.args.id c.args.status c.ranges.id.fits c.requires.0 c.requires.1) (omega (arith, c.requires.2, status_length c.args.id c.args.status))) c.replied.ensures
+    let a = c.args in
+    let wrote = c.svsc_write_establish_refused.ensures in
+    let ranges = status_ranges a.id a.status c.ranges.id.fits c.requires.0 c.requires.1 in
+    session_refused cs ls al a.reply.now relay k a.id random a.status _ _ _
+    (sent-length (establish_refused a.id a.status) a.reply.now _ _ wrote ranges (omega (arith, c.requires.2, status_length a.id a.status)) _ c.unwrap-sent.ensures)
+    (sent-buffer (establish_refused a.id a.status) a.reply.now _ _ wrote ranges (omega (arith, c.requires.2, status_length a.id a.status))) c.replied.ensures

@@ -11,6 +11,5 @@ returns c relay long =
     let tables = lent c.args.connections.now c.args.leases.now c.args.allowances.now in
     let call = closing c.args.time c.args.connection relay in
     c.without_headroom.ensures
-    ∙ rw c.nothing_named.ensures
-    (free_way tables call _ (c.refusal-check.ensures relay long) refl _
-    (nothing_asked_lem tables call c.refusal-check.result (unfold asked in refl)))
+    ∙ (free_way tables call _ (c.answer_number-check.ensures ∙ c.check-checked.ensures.number relay long) refl _
+    (nothing_asked_lem tables call c.answer_number-check.result (unfold asked in refl)))

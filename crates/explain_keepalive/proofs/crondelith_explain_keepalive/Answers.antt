@@ -11,6 +11,5 @@ returns c reply relay long long2 =
     let tables = lent c.args.connections.now c.args.leases.now c.args.allowances.now in
     let call = keepalive c.args.time c.args.connection reply relay in
     c.without_headroom.ensures
-    ∙ rw c.nothing_named.ensures
-    (free_way tables call _ (c.refusal-check.ensures reply relay long long2) refl _
-    (nothing_asked_lem tables call c.refusal-check.result (unfold asked in refl)))
+    ∙ (free_way tables call _ (c.answer_number-check.ensures ∙ c.check-checked.ensures.number reply relay long long2) refl _
+    (nothing_asked_lem tables call c.answer_number-check.result (unfold asked in refl)))

@@ -7,11 +7,12 @@ pub returns-then-there-left : goal.returns-then-there-left
 returns-then-there-left c =
     let a = c.args in
     rw c.answer.ensures
-    (body_partly a.taken a.size a.used a.message.now a.chunk.now _ (omega (arith, c.if-there-left.true))
+    (body_partly a.state.taken a.state.size a.used a.message.now a.chunk.now _ (omega (arith, c.if-there-left.true))
     c.copy_at_once.ensures)
 
 pub returns : goal.returns
 returns c =
     let a = c.args in
-    body_entire a.taken a.size a.used a.message.now a.chunk.now _ (omega (arith, c.if-there-left.false))
-    c.copy_at_once-2.ensures
+    rw c.answer-2.ensures
+    (body_entire a.state.taken a.state.size a.used a.message.now a.chunk.now _ (omega (arith, c.if-there-left.false))
+    c.copy_at_once-2.ensures)

@@ -19,4 +19,4 @@ pub returns : goal.returns
 returns c =
     let a = c.args in
     frame-stored a.message.now a.frame.now _ _ _ _ (omega (arith, c.if-message-gt-MESSAGE_LIMIT.false)) (omega (arith, c.if-frame-length.false))
-    c.header-start.ensures c.store.ensures c.copy_at_once.ensures refl
+    c.header-start.ensures c.copy.ensures c.copy_at_once.ensures refl

@@ -1,5 +1,4 @@
 -- `fill_records`: the table starts with i of the records.
-use Prim.Native.Nat.{◌-◌, ◌*◌, ◌≤◌}
 use mathlib.Core.Path.{◌≡◌}
 use lib.ListN.{length}
 use Rattle.octets.specs.Octets.{put}
@@ -7,8 +6,4 @@ use Rattle.rules.specs.Tables.{records}
 use Rattle.fresh_tables.proofs.fill_records.Given as goal
 
 abbrev pub invariant-loop-i : goal.invariant-loop-i
-invariant-loop-i l =
-    (l.i ≤ l.count) × (l.at ≡ l.i * length l.row) × (l.table ≡ put l.initial.table 0 (records l.i l.row)) × (length l.table ≡ length l.initial.table)
-
-abbrev pub decreases-loop-i : goal.decreases-loop-i
-decreases-loop-i l = l.count - l.i
+invariant-loop-i l = (l.table ≡ put l.initial.table 0 (records l.i l.row)) × (length l.table ≡ length l.initial.table)

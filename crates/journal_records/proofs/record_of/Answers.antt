@@ -13,5 +13,5 @@ returns-then-is_unrecorded c = rw (sym c.is_unrecorded.ensures ∙ c.if-is_unrec
 pub returns : goal.returns
 unfolding answer_record record_with
 returns c =
-    rw (sym c.is_unrecorded.ensures ∙ c.if-is_unrecorded.false)
-    (assembled _ _ _ c.bytes64-t.ensures (c.bytes64-p.ensures ∙ ap (big_endian 8) c.charge.ensures) (omega arith) (omega arith))
+    rw (sym c.is_unrecorded.ensures ∙ c.if-is_unrecorded.false, ← c.number-called.ensures)
+    (assembled _ _ _ c.bytes-t.ensures (c.bytes-p.ensures ∙ ap (big_endian 8) c.charge.ensures) (omega arith) (omega arith))

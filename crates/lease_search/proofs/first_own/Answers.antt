@@ -1,24 +1,20 @@
--- `first_own`: the search over all the rows is the search over what is left.
-use mathlib.Core.Path.{sym, ◌∙◌}
-use Rattle.lease_search.specs.Searches.{passes}
-use Rattle.lease_search.proofs.RowSearch.{own-start, first_hit, first-miss, first-none}
+-- `first_own`: the library's search over a range, by the test that the closure answers.
+use Prim.Native.Nat.{◌<◌}
+use mathlib.Core.Path.{◌≡◌, sym}
+use mathlib.Core.Bool.{true, false}
 use native.Mathlib.Omega.{arith}
+use borrow.Author.Rules.{rules}
+use Rattle.rules.specs.Sizes.{row_count}
+use Rattle.std.proofs.lemmas.Iterator.{first_from_Range, serves_from_Range}
+use Rattle.lease_search.proofs.Found.{own_found}
 use Rattle.lease_search.proofs.first_own.Goals as goal
 
-pub loop-row-init : goal.loop-row-init
-loop-row-init c = (omega arith, own-start _ _ c.end_row-end.ensures)
-
-pub returns-then-passes : goal.returns-then-passes
-returns-then-passes c =
-    let l = c.loop-row in
-    sym (l.invariant.1 ∙ first_hit _ _ c.loop-row-test.true c.passes.ensures c.if-passes.true)
-
-pub loop-row-preserved : goal.loop-row-preserved
-loop-row-preserved c =
-    let l = c.loop-row in
-    (omega arith, l.invariant.1 ∙ first-miss _ _ c.loop-row-test.true c.passes.ensures c.if-passes.false)
+pub find-requires-clause-callable : goal.find-requires-clause-callable
+find-requires-clause-callable g c = serves_from_Range (λ x q k. search rules) (λ x low high. λ y e. rw e (c.requires.callable x (omega arith)))
 
 pub returns : goal.returns
-returns c =
-    let l = c.loop-row in
-    sym (l.invariant.1 ∙ first-none _ _ l.invariant.0 c.loop-row-test.false)
+returns g c test tested =
+    own_found test _ _ c.requires.in_range c.end_row-end.ensures
+    (first_from_Range _ _ _ _ (λ row. row < row_count → test row ≡ true) (λ row. row < row_count → test row ≡ false) c.find.ensures.ran
+    (λ x q k h. sym (tested x true h (search rules)))
+    (λ x q k. (search rules, λ h. sym (tested x false h (search rules)))))

@@ -4,4 +4,4 @@ use Rattle.leases.proofs.candidate.Goals as goal
 
 pub returns : goal.returns
 unfolding candidate
-returns c = rw c.read32.ensures
+returns c = rw c.number.ensures.value

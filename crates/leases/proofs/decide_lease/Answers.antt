@@ -1,26 +1,33 @@
 -- `decide_lease`: a law for each way out.
+use mathlib.Core.Path.{refl}
+use Rattle.lease_table.proofs.Rows.{found_own, none-own}
 use Rattle.leases.proofs.LeaseDecisions.{holds_lease_lem, no_spare-row, cookie_in_use_lem, no_free_id_lem, renews_or_grants}
-use native.Mathlib.Omega.{arith}
+use Rattle.std.proofs.lemmas.Result.{err_from_is_err_and}
 use Rattle.leases.proofs.decide_lease.Goals as goal
 
 pub returns-then-holds_row : goal.returns-then-holds_row
 returns-then-holds_row c = holds_lease_lem _ _ _ _ _ _ c.holds_row.ensures c.if-holds_row.true
 
-pub returns-then-end_row-row : goal.returns-then-end_row-row
-returns-then-end_row-row c =
-    no_spare-row _ _ _ _ _ _ c.holds_row.ensures c.if-holds_row.false c.partner_of-partner.ensures c.spare_row-row.ensures c.end_row.ensures (omega arith)
+pub returns-in_default : goal.returns-in_default
+returns-in_default c =
+    no_spare-row _ _ _ _ _ _ c.holds_row.ensures c.if-holds_row.false c.partner_of-partner.ensures refl refl (none-own _ _ c.spare_row.ensures c.in_default.is)
 
 pub returns-then-cookie_taken : goal.returns-then-cookie_taken
 returns-then-cookie_taken c =
-    cookie_in_use_lem _ _ _ _ _ _ c.holds_row.ensures c.if-holds_row.false c.partner_of-partner.ensures c.spare_row-row.ensures c.end_row.ensures (omega arith)
+    let own = found_own _ _ c.spare_row.ensures c.in-Some.is in
+    cookie_in_use_lem _ _ _ _ _ _ c.holds_row.ensures c.if-holds_row.false c.partner_of-partner.ensures own.0 refl own.1
     c.part.ensures c.cookie_taken.ensures c.if-cookie_taken.true
 
-pub returns-in-At : goal.returns-in-At
-returns-in-At c =
-    renews_or_grants _ _ _ _ _ _ c.holds_row.ensures c.if-holds_row.false c.partner_of-partner.ensures c.spare_row-row.ensures c.end_row.ensures (omega arith)
-    c.part.ensures c.cookie_taken.ensures c.if-cookie_taken.false c.free_id.ensures c.in-At.is (c.renew_or_grant.ensures _)
+pub returns-in_err-id : goal.returns-in_err-id
+returns-in_err-id c =
+    let own = found_own _ _ c.spare_row.ensures c.in-Some.is in
+    let p = err_from_is_err_and c.from_residual.result c.from_residual.ensures.1 in
+    rw (p.1, p.2)
+    (no_free_id_lem _ _ _ _ _ _ c.holds_row.ensures c.if-holds_row.false c.partner_of-partner.ensures own.0 refl own.1
+    c.part.ensures c.cookie_taken.ensures c.if-cookie_taken.false c.free_id.ensures c.in_err-id.ensures.ok_part c.in_err-id.ensures.value)
 
-pub returns-in-Nothing : goal.returns-in-Nothing
-returns-in-Nothing c =
-    no_free_id_lem _ _ _ _ _ _ c.holds_row.ensures c.if-holds_row.false c.partner_of-partner.ensures c.spare_row-row.ensures c.end_row.ensures (omega arith)
-    c.part.ensures c.cookie_taken.ensures c.if-cookie_taken.false c.free_id.ensures c.in-Nothing.is
+pub returns : goal.returns
+returns c =
+    let own = found_own _ _ c.spare_row.ensures c.in-Some.is in
+    renews_or_grants _ _ _ _ _ _ c.holds_row.ensures c.if-holds_row.false c.partner_of-partner.ensures own.0 refl own.1
+    c.part.ensures c.cookie_taken.ensures c.if-cookie_taken.false c.free_id.ensures c.in_ok-id.ensures.ok_part (c.renew_or_grant.ensures _)

@@ -5,14 +5,14 @@ use Rattle.message_refusal.proofs.session.Goals as goal
 pub returns-then-not-needs_session : goal.returns-then-not-needs_session
 returns-then-not-needs_session c =
     let a = c.args in
-    none_needed a.connections.now a.c a.kind _ c.needs_session.ensures c.if-not-needs_session.true-raw
+    none_needed a.connections.now a.c a.kind _ c.needs_session.ensures (c.if-not-needs_session.true)
 
 pub returns-then-not-in_session : goal.returns-then-not-in_session
 returns-then-not-in_session c =
     let a = c.args in
-    none-there a.connections.now a.c a.kind _ c.needs_session.ensures c.if-not-needs_session.false-raw _ c.peer-peer.ensures _ c.in_session.ensures c.if-not-in_session.true-raw
+    none-there a.connections.now a.c a.kind _ c.needs_session.ensures c.if-not-needs_session.false _ c.peer-peer.ensures _ c.in_session.ensures c.if-not-in_session.true
 
 pub returns : goal.returns
 returns c =
     let a = c.args in
-    one-there a.connections.now a.c a.kind _ c.needs_session.ensures c.if-not-needs_session.false-raw _ c.peer-peer.ensures _ c.in_session.ensures c.if-not-in_session.false-raw
+    one-there a.connections.now a.c a.kind _ c.needs_session.ensures c.if-not-needs_session.false _ c.peer-peer.ensures _ c.in_session.ensures c.if-not-in_session.false

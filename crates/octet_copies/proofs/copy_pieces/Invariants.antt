@@ -1,12 +1,15 @@
--- `copy_pieces`: the buffer holds the first i bytes, and i grows by a piece.
-use Prim.Native.Nat.{◌-◌, ◌≤◌}
+-- `copy_pieces`: with what is left stored behind, all is stored.
+use Prim.Native.Nat.{◌+◌}
 use mathlib.Core.Path.{◌≡◌}
-use lib.ListN.{length, take}
+use lib.ListN.{length}
 use Rattle.octets.specs.Octets.{put}
+use Rattle.std.specs.Slice.Iter.{chunks_rest}
 use Rattle.octet_copies.proofs.copy_pieces.Given as goal
 
-abbrev pub invariant-loop-i : goal.invariant-loop-i
-invariant-loop-i l = (l.i ≤ length l.bytes) × (l.buffer ≡ put l.initial.buffer l.at (take l.i l.bytes)) × (length l.buffer ≡ length l.initial.buffer)
-
-abbrev pub decreases-loop-i : goal.decreases-loop-i
-decreases-loop-i l = length l.bytes - l.i
+abbrev pub invariant-loop-piece : goal.invariant-loop-piece
+invariant-loop-piece l = record {
+  next : (goal.iterator-loop-piece).can_next l.piece-iterator;
+  ends : (goal.iterator-loop-piece).is_finite l.piece-iterator;
+  fits : l.end + length (chunks_rest l.piece-iterator) ≡ l.at + length l.bytes;
+  stored : put l.buffer l.end (chunks_rest l.piece-iterator) ≡ put l.initial.buffer l.at l.bytes;
+}

@@ -1,24 +1,18 @@
--- `copy`: what fits; the rest would be dropped.
+-- `copy`: the bytes that fit, one by one; the rest would be dropped.
 use native.Mathlib.Omega.{arith}
-use Prim.Native.Nat.{◌-◌}
-use mathlib.Core.Path.{◌≡◌, ◌∙◌}
-use lib.ListN.{length-take}
-use Rattle.octets.proofs.Stores.{put-cut}
+use Prim.Native.Nat.{◌<◌}
+use mathlib.Core.Path.{refl, sym, ◌∙◌}
+use lib.ListN.{length, length-set}
+use Rattle.octets.proofs.Stores.{put-none, put-take_more, put-cut}
 use Rattle.octet_stores.proofs.copy.Goals as goal
 
-pub slice_bounds-store-end : goal.slice_bounds-store-end
-slice_bounds-store-end c = omega (arith, c.fitting-n.ensures)
+pub loop-i-init : goal.loop-i-init
+loop-i-init c = (sym (put-none _ _), refl)
 
-pub store-requires : goal.store-requires
-store-requires c =
-    let n = c.fitting-n.result in
-    let s = c.args.s.now in
-    let all : n - 0 ≡ n = omega arith in
-    rw all (omega (arith, length-take n s, c.fitting-n.ensures))
+pub loop-i-preserved : goal.loop-i-preserved
+loop-i-preserved c =
+    let below : c.loop-i.i < length c.args.s.now = omega (arith, c.min-n.ensures) in
+    (simp (put-take_more, ← c.loop-i.invariant.0), simp length-set c.loop-i.invariant.1)
 
 pub returns : goal.returns
-returns c =
-    let a = c.args in
-    let n = c.fitting-n.result in
-    let all : n - 0 ≡ n = omega arith in
-    (rw all at c.store.ensures) ∙ put-cut a.t.now a.at a.s.now n c.fitting-n.ensures
+returns c = c.loop-i.invariant.0 ∙ put-cut c.args.t.now c.args.at c.args.s.now c.loop-i.i (omega (arith, c.min-n.ensures, c.saturating_sub.ensures))

@@ -1,20 +1,19 @@
--- `fill`: the first i bytes are stored; those that would fall past the end are dropped.
+-- `fill`: what fits; the rest would be dropped.
+use Prim.Native.Nat.{ℕ}
 use native.Mathlib.Omega.{arith}
-use mathlib.Core.Path.{refl, sym, ◌∙◌}
-use lib.ListN.{length-set}
-use Rattle.octets.proofs.Stores.{put-none, put-replicate_more, put-replicate-cut}
+use mathlib.Core.Path.{◌≡◌, sym, ap, ◌∙◌}
+use lib.ListN.{replicate, length-replicate, length-take, length-drop}
+use Rattle.octets.proofs.Stores.{put_mid-put, put-replicate-cut, put_past}
 use Rattle.octet_stores.proofs.fill.Goals as goal
 
-pub loop-i-init : goal.loop-i-init
-loop-i-init c = (omega arith, sym (put-none _ _), refl)
-
-pub loop-i-preserved : goal.loop-i-preserved
-loop-i-preserved c = (omega arith, simp (put-replicate_more, ← c.loop-i.invariant.1), simp length-set c.loop-i.invariant.2)
-
-pub shape_of-t : goal.shape_of-t
-shape_of-t c = c.loop-i.invariant.2
-
-pub returns : goal.returns
-returns c =
+pub returns-then-at-t : goal.returns-then-at-t
+returns-then-at-t c =
     let a = c.args in
-    c.loop-i.invariant.1 ∙ put-replicate-cut a.t.now a.at a.n a.v c.loop-i.i (omega arith)
+    let m = c.min-m.result in
+    let filled : c.fill.new.self ≡ replicate m a.v = c.fill.ensures.after (λ y e. e) ∙ ap (λ (k : ℕ). replicate k a.v) (simp (length-take, length-drop) (omega (arith, c.min-m.ensures))) in
+    rw filled
+    (put_mid-put a.t.now a.at _ _ (omega (arith, length-replicate m a.v)) (omega (arith, c.min-m.ensures))
+    ∙ put-replicate-cut a.t.now a.at a.n a.v m (omega (arith, c.min-m.ensures)))
+
+pub returns-else-at-t : goal.returns-else-at-t
+returns-else-at-t c = sym (put_past c.args.t.now c.args.at _ c.if-at-t.false)

@@ -9,4 +9,5 @@ use Rattle.reasons.proofs.with_headroom.Goals as goal
 pub returns : goal.returns
 returns c =
     let a = c.args in
-    ap (λ (z : ℤ). reason_of a.check a.named (some z)) (held a.level a.cost c.requires c.difference-headroom.result c.difference-headroom.ensures)
+    rw (c.request.ensures, c.condition.ensures)
+    (ap (λ (z : ℤ). reason_of a.check a.named (some z)) (held a.level a.cost c.requires c.difference-headroom.result c.difference-headroom.ensures))

@@ -6,27 +6,27 @@ use borrow.Author.Tests.{not-false}
 use Rattle.refusals.proofs.Stops.{sizes-known, wrong_size_lem, wrong-time, wrong-connection, three_pass}
 use Rattle.refusals.proofs.first_three.Goals as goal
 
-pub returns-then-not-sized : goal.returns-then-not-sized
-returns-then-not-sized c =
+pub returns-then-not-sized-clause-number : goal.returns-then-not-sized-clause-number
+returns-then-not-sized-clause-number c =
     let a = c.args in
     wrong_size_lem (lent a.connections.now a.leases.now a.allowances.now) a.time a.connection _ _ c.sized.ensures refl c.if-not-sized.true-raw
 
-pub is_wrong_time-requires : goal.is_wrong_time-requires
-is_wrong_time-requires c =
+pub new-requires : goal.new-requires
+new-requires c =
     let a = c.args in
     (sizes-known (lent a.connections.now a.leases.now a.allowances.now) (sym c.sized.ensures ∙ not-false _ c.if-not-sized.false-raw)).allowances
 
-pub returns-then-is_wrong_time : goal.returns-then-is_wrong_time
-returns-then-is_wrong_time c =
+pub returns-then-is_wrong_time-clause-number : goal.returns-then-is_wrong_time-clause-number
+returns-then-is_wrong_time-clause-number c =
     let a = c.args in
-    wrong-time (lent a.connections.now a.leases.now a.allowances.now) a.time a.connection _ _ c.sized.ensures c.is_wrong_time.ensures c.if-not-sized.false-raw c.if-is_wrong_time.true
+    wrong-time (lent a.connections.now a.leases.now a.allowances.now) a.time a.connection _ _ c.sized.ensures (rw c.new.ensures at c.is_wrong_time.ensures) c.if-not-sized.false-raw c.if-is_wrong_time.true
 
-pub returns-then-connection : goal.returns-then-connection
-returns-then-connection c =
+pub returns-then-connection-clause-number : goal.returns-then-connection-clause-number
+returns-then-connection-clause-number c =
     let a = c.args in
-    wrong-connection (lent a.connections.now a.leases.now a.allowances.now) a.time a.connection _ _ c.sized.ensures c.is_wrong_time.ensures c.if-not-sized.false-raw c.if-is_wrong_time.false (omega arith)
+    wrong-connection (lent a.connections.now a.leases.now a.allowances.now) a.time a.connection _ _ c.sized.ensures (rw c.new.ensures at c.is_wrong_time.ensures) c.if-not-sized.false-raw c.if-is_wrong_time.false (omega arith)
 
-pub returns : goal.returns
-returns c =
+pub returns-clause-number : goal.returns-clause-number
+returns-clause-number c =
     let a = c.args in
-    three_pass (lent a.connections.now a.leases.now a.allowances.now) a.time a.connection _ _ c.sized.ensures c.is_wrong_time.ensures c.if-not-sized.false-raw c.if-is_wrong_time.false (omega arith)
+    three_pass (lent a.connections.now a.leases.now a.allowances.now) a.time a.connection _ _ c.sized.ensures (rw c.new.ensures at c.is_wrong_time.ensures) c.if-not-sized.false-raw c.if-is_wrong_time.false (omega arith)

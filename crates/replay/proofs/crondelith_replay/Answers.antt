@@ -1,28 +1,24 @@
 -- `crondelith_replay`: refused, or the table that agrees is copied, or all stays.
-use native.Mathlib.Omega.{arith}
-use Rattle.octets.proofs.Stores.{put_whole}
+use Rattle.std.proofs.Common.{arith}
 use Rattle.journal.specs.Replays.{replay}
-use Rattle.replay_parts.proofs.Refusals.{sized, refused_way, agreed_way, contradicted_way}
+use Rattle.refusal_numbers.proofs.Numbers.{number-some}
+use Rattle.replay_parts.proofs.Refusals.{sized, refused_way}
 use Rattle.replay.proofs.crondelith_replay.Goals as goal
 
-pub returns-then-refusal-ne0 : goal.returns-then-refusal-ne0
+pub returns-in-Err : goal.returns-in-Err
 unfolding replay
-returns-then-refusal-ne0 c = rw (c.refused.ensures, ← c.refusal-refusal.ensures) (refused_way _ c.if-refusal-ne0.true _ _)
+returns-in-Err c = rw (c.refused.ensures, c.number.ensures, ← c.in-Err.ensures) (refused_way _ (number-some _) _ _)
 
-pub store-requires : goal.store-requires
-store-requires c = omega (arith, sized _ _ _ _ c.refusal-refusal.ensures c.if-refusal-ne0.false)
+pub copy_from_slice-requires : goal.copy_from_slice-requires
+copy_from_slice-requires c = omega (arith, sized _ _ _ c.in_default.ensures)
 
-pub returns-then-verdict-eq0 : goal.returns-then-verdict-eq0
+pub returns-in-Ok : goal.returns-in-Ok
 unfolding replay
-returns-then-verdict-eq0 c =
-    let a = c.args in
-    let size = sized _ _ _ _ c.refusal-refusal.ensures c.if-refusal-ne0.false in
-    rw (← c.refusal-refusal.ensures, c.if-refusal-ne0.false, c.store.ensures, put_whole a.allowances.now c.judge-verdict.new.table (omega arith), ← c.fresh_allowances.ensures)
-    (agreed_way a.allowances.now _ _ _ (c.judge-verdict.ensures a.allowances.now) c.if-verdict-eq0.true)
+returns-in-Ok c =
+    rw (← c.in_default.ensures, ← c.fresh_allowances.ensures, ← c.judge.ensures, c.in-Ok.is)
+    (rw (c.agreed.ensures, c.copy_from_slice.ensures.after, c.ledger.view_is))
 
-pub returns-else-verdict-eq0 : goal.returns-else-verdict-eq0
+pub returns-in-Err-judge : goal.returns-in-Err-judge
 unfolding replay
-returns-else-verdict-eq0 c =
-    let a = c.args in
-    rw (← c.refusal-refusal.ensures, c.if-refusal-ne0.false, ← c.fresh_allowances.ensures)
-    (contradicted_way a.allowances.now _ _ _ (c.judge-verdict.ensures a.allowances.now) c.if-verdict-eq0.false)
+returns-in-Err-judge c =
+    rw (← c.in_default.ensures, ← c.fresh_allowances.ensures, ← c.judge.ensures, c.in-Err-judge.is) (rw c.contradicted.ensures)

@@ -1,26 +1,22 @@
 -- `crondelith_replay_plain`: refused, or the table of the levels is written, or all stays.
-use native.Mathlib.Omega.{arith}
 use Rattle.journal.specs.Plain.{replay_plain}
-use Rattle.replay_parts.proofs.Refusals.{sized, refused_way, agreed_way, contradicted_way}
+use Rattle.refusal_numbers.proofs.Numbers.{number-some}
+use Rattle.replay_parts.proofs.Refusals.{sized, refused_way}
 use Rattle.replay_plain.proofs.crondelith_replay_plain.Goals as goal
 
-pub returns-then-refusal-ne0 : goal.returns-then-refusal-ne0
+pub returns-in-Err : goal.returns-in-Err
 unfolding replay_plain
-returns-then-refusal-ne0 c = rw (c.refused.ensures, ← c.refusal-refusal.ensures) (refused_way _ c.if-refusal-ne0.true _ _)
+returns-in-Err c = rw (c.refused.ensures, c.number.ensures, ← c.in-Err.ensures) (refused_way _ (number-some _) _ _)
 
 pub store_table-requires : goal.store_table-requires
-store_table-requires c = (sized _ _ _ _ c.refusal-refusal.ensures c.if-refusal-ne0.false, omega arith)
+store_table-requires c = sized _ _ _ c.in_default.ensures
 
-pub returns-then-answer-eq0 : goal.returns-then-answer-eq0
+pub returns-in-Ok : goal.returns-in-Ok
 unfolding replay_plain
-returns-then-answer-eq0 c =
-    let a = c.args in
-    rw (← c.refusal-refusal.ensures, c.if-refusal-ne0.false, c.store_table.ensures)
-    (agreed_way a.allowances.now _ _ _ (c.judge-verdict.ensures a.allowances.now a.term) c.if-answer-eq0.true)
+returns-in-Ok c =
+    rw (← c.in_default.ensures, ← c.judge.ensures, c.in-Ok.is)
+    (rw (c.agreed.ensures, c.store_table.ensures, ← c.ledger.view_is))
 
-pub returns-else-answer-eq0 : goal.returns-else-answer-eq0
+pub returns-in-Err-judge : goal.returns-in-Err-judge
 unfolding replay_plain
-returns-else-answer-eq0 c =
-    let a = c.args in
-    rw (← c.refusal-refusal.ensures, c.if-refusal-ne0.false)
-    (contradicted_way a.allowances.now _ _ _ (c.judge-verdict.ensures a.allowances.now a.term) c.if-answer-eq0.false)
+returns-in-Err-judge c = rw (← c.in_default.ensures, ← c.judge.ensures, c.in-Err-judge.is) (rw c.contradicted.ensures)

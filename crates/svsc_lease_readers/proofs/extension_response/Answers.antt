@@ -2,22 +2,14 @@
 use mathlib.Core.Path.{ap, ◌∙◌}
 use mathlib.Core.Option.{some}
 use Rattle.svsc_decoded.specs.Reading.{answer}
-use Rattle.svsc_decoded.proofs.Forms.{extension_response, reaches}
+use Rattle.svsc_decoded.proofs.Forms.{extension_response}
 use Rattle.svsc.specs.Messages.{extension_granted}
-use lib.Dec.{lit≤}
 use Prim.Native.Nat.{ℕ}
 use Rattle.svsc_lease_readers.proofs.extension_response.Goals as goal
 
-pub returns-then-m-extended : goal.returns-then-m-extended
-returns-then-m-extended c =
-    (extension_response c.args.m.now _ c.requires c.byte-extended.ensures).first c.if-m-extended.true
-
-pub read64-requires : goal.read64-requires
-read64-requires c = reaches _ _ _ _ c.if-m-extended-2.true (lit≤ tt)
-
 pub returns-then-m-extended-2 : goal.returns-then-m-extended-2
 returns-then-m-extended-2 c =
-    ap (λ (e : ℕ). answer (some (extension_granted e))) c.read64.ensures
+    ap (λ (e : ℕ). answer (some (extension_granted e))) c.number.ensures.value
     ∙ (extension_response c.args.m.now _ c.requires c.byte-extended.ensures).second c.if-m-extended.false c.if-m-extended-2.true
 
 pub returns : goal.returns

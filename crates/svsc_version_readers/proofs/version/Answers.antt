@@ -16,15 +16,15 @@ unfolding readings
 returns-then-m-ne13 c =
     refused c.args.m.now 0 c.requires (protocol_version (digits_at c.args.m.now 6) (digits_at c.args.m.now 10)) (eqb (length c.args.m.now) 13 && is_version c.args.m.now) refl (rw (ne_eqb _ _ c.if-m-ne13.true))
 
-pub returns-then-is_version : goal.returns-then-is_version
-unfolding readings digits_at
-returns-then-is_version c =
-    let text = sym c.is_version.ensures ∙ c.if-is_version.true in
-    ap₂ (λ (major minor : ℕ). answer (some (protocol_version major minor))) c.three.ensures c.three-then-is_version.ensures
-    ∙ taken c.args.m.now 0 c.requires (protocol_version (digits_at c.args.m.now 6) (digits_at c.args.m.now 10)) (eqb (length c.args.m.now) 13 && is_version c.args.m.now) refl (rw (eq-eqb _ _ c.if-m-ne13.false, text))
+pub returns-then-not-is_version : goal.returns-then-not-is_version
+unfolding readings
+returns-then-not-is_version c =
+    let text = sym c.is_version.ensures ∙ c.if-not-is_version.true in
+    refused c.args.m.now 0 c.requires (protocol_version (digits_at c.args.m.now 6) (digits_at c.args.m.now 10)) (eqb (length c.args.m.now) 13 && is_version c.args.m.now) refl (rw (eq-eqb _ _ c.if-m-ne13.false, text))
 
 pub returns : goal.returns
-unfolding readings
+unfolding readings digits_at
 returns c =
-    let text = sym c.is_version.ensures ∙ c.if-is_version.false in
-    refused c.args.m.now 0 c.requires (protocol_version (digits_at c.args.m.now 6) (digits_at c.args.m.now 10)) (eqb (length c.args.m.now) 13 && is_version c.args.m.now) refl (rw (eq-eqb _ _ c.if-m-ne13.false, text))
+    let text = sym c.is_version.ensures ∙ c.if-not-is_version.false in
+    ap₂ (λ (major minor : ℕ). answer (some (protocol_version major minor))) c.three.ensures c.three-2.ensures
+    ∙ taken c.args.m.now 0 c.requires (protocol_version (digits_at c.args.m.now 6) (digits_at c.args.m.now 10)) (eqb (length c.args.m.now) 13 && is_version c.args.m.now) refl (rw (eq-eqb _ _ c.if-m-ne13.false, text))

@@ -169,6 +169,8 @@ fn a_relay_can_be_started_again_at_once() {
     let relay = Relay::start(&[]);
     let port = relay.base_port.to_string();
     let mut peer = TcpStream::connect(("127.0.0.1", relay.base_port)).expect("the relay listens");
+    // One that the relay has not accepted yet would be reset.
+    peer.read_exact(&mut [0; 16]).expect("the version");
     relay.program.signal("TERM");
     // The relay closes first, so its port stays known to the kernel for a while.
     peer.read_to_end(&mut Vec::new()).expect("the end");

@@ -1,7 +1,0 @@
--- `id_of`: the number in the row's four bytes behind its expiry.
-use Rattle.rules.specs.Tables.{id_of}
-use Rattle.lease_table.proofs.id_of.Goals as goal
-
-pub returns : goal.returns
-unfolding id_of
-returns c = c.read32.ensures

@@ -1,7 +1,0 @@
--- `write64`: the bytes of the number, copied.
-use mathlib.Core.Path.{ap, ◌∙◌}
-use Rattle.octets.specs.Octets.{put}
-use Rattle.octet_stores.proofs.write64.Goals as goal
-
-pub returns : goal.returns
-returns c = c.copy.ensures ∙ ap (put _ _) c.bytes64-bytes.ensures

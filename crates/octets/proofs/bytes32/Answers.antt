@@ -1,8 +1,0 @@
--- `bytes32`: a number's four bytes.
-use native.Mathlib.Nat.{div-one}
-use Rattle.octets.specs.Octets.{big_endian}
-use Rattle.octets.proofs.bytes32.Goals as goal
-
-pub returns : goal.returns
-unfolding big_endian
-returns c = rw div-one

@@ -1,8 +1,0 @@
--- `only`: the case, or Malformed.
-use Rattle.svsc_decoded.proofs.only.Goals as goal
-
-pub returns-then-fits : goal.returns-then-fits
-returns-then-fits c = rw c.if-fits.true
-
-pub returns : goal.returns
-returns c = rw c.if-fits.false

@@ -1,9 +1,0 @@
--- `svsc_write_lease_refused`: its ranges and its bytes are those of the message.
-use mathlib.Core.Path.{refl}
-use Rattle.svsc.specs.Messages.{lease_refused, well_formed, encode}
-use Rattle.svsc.proofs.Writing.{writes}
-use Rattle.svsc_lease_writers.proofs.svsc_write_lease_refused.Goals as goal
-
-pub returns : goal.returns
-unfolding well_formed encode
-returns c = writes lease_refused _ _ _ _ c.put_part.ensures refl refl
