@@ -85,19 +85,20 @@ impl<'a> Leases<'a> {
         octets::number::<4>(self.bytes, rules::LEASE_BYTES * row + rules::ID_AT) as u32
     }
 
-    // The connection that holds the row, or 255.
+    // The connection that holds the row, or 255. With the size known, no length is compared in it and in cookie_of, which searches call for each row.
     pub fn holder(&self, row: usize) -> u8
         requires { row < row_count }
         ensures { result ≡ holder self.now row }
     {
-        holder(self.bytes, row)
+        self.bytes[rules::LEASE_BYTES * row + rules::HOLDER_AT]
     }
 
     pub fn cookie_of(&self, row: usize) -> &[u8]
         requires { row < row_count }
         ensures { result.now ≡ cookie_of self.now row }
     {
-        cookie_of(self.bytes, row)
+        let at = rules::LEASE_BYTES * row + rules::COOKIE_AT;
+        &self.bytes[at..at + svsc::COOKIE]
     }
 
     pub fn is_live(&self, time: u64, row: usize) -> bool
@@ -107,11 +108,11 @@ impl<'a> Leases<'a> {
         time < self.expiry(row)
     }
 
-    // Whether the row is live and has the id.
+    // Whether the row is live and has the id. The id first: few rows have it, and its four bytes are compared as they stand.
     pub fn is_live_with_id(&self, time: u64, id: u32, row: usize) -> bool
         requires { row < row_count }
         ensures { result ≡ live_with_id self.now time id row }
     {
-        self.is_live(time, row) && self.id_of(row) == id
+        self.id_of(row) == id && self.is_live(time, row)
     }
 }

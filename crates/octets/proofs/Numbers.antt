@@ -4,6 +4,7 @@ use mathlib.Core.Path.{◌≡◌, refl, sym, ap, ◌∙◌}
 use mathlib.Core.Bool.{true}
 use mathlib.Core.List.{List, [], ◌∷◌, ◌++◌, append_assoc}
 use native.Mathlib.Numerals.{add-one}
+use native.Mathlib.Decide.{dec_lt}
 use native.Mathlib.Nat.{add_assoc, add-mul, mul_assoc, zero-add, pow-suc, pow-succ', pow-le-pow_right, mod-eq_of_lt, one-le-pow, mul-add-div_right, mul-add-mod_self_right}
 use native.Mathlib.Omega.{arith}
 use lib.Arith.{mod-mul, digits_div, digits_lt}
@@ -11,6 +12,8 @@ use lib.Dec.{lit<}
 use lib.Pow.{are_bytes}
 use lib.ListN.{length, get_or, set, replicate, length-replicate}
 use lib.Seq.{set-append_seam}
+use Rattle.std.specs.Prelude.{min}
+use Rattle.std.proofs.lemmas.Nat.{pow-add}
 use Rattle.std.proofs.lemmas.Grind.{replicate_next}
 use Rattle.octets.specs.Octets.{number_from, number, big_endian, part, number_at}
 use Rattle.octets.proofs.Tests.{head_byte, tail_bytes, bytes-part}
@@ -45,11 +48,55 @@ number_at-next xs at n h =
 pub next_lt : (v x n : ℕ) → v < 256 ^ n → x < 256 → v * 256 + x < 256 ^ (n + 1)
 next_lt v x n h l = rw (add-one, pow-suc 256 n) (omega (arith, h, l))
 
-pub within_eight : (v x n : ℕ) → v < 256 ^ n → x < 256 → n < 8 → v * 256 + x < 256 ^ 8
-within_eight v x n h l e =
-    let fits : n + 1 ≤ 8 = omega (arith, e) in
-    let up : 256 ^ (n + 1) ≤ 256 ^ 8 = pow-le-pow_right (lit< tt) fits in
+pub within_four : (v x n : ℕ) → v < 256 ^ n → x < 256 → n < 4 → v * 256 + x < 256 ^ 4
+within_four v x n h l e =
+    let fits : n + 1 ≤ 4 = omega (arith, e) in
+    let up : 256 ^ (n + 1) ≤ 256 ^ 4 = pow-le-pow_right (lit< tt) fits in
     omega (arith, next_lt v x n h l, up)
+
+number_at-none : (xs : List ℕ) (at : ℕ) → number_at xs at 0 ≡ 0
+unfolding number_at number number_from part
+number_at-none xs at = refl
+
+-- a number of n bytes: that of the first a, and behind it that of the other b
+pub number_at-split : (xs : List ℕ) (at a b : ℕ) → at + (a + b) ≤ length xs
+    → number_at xs at (a + b) ≡ number_at xs at a * 256 ^ b + number_at xs (at + a) b
+unfolding number_at
+number_at-split xs at a b h =
+    ap number (sym (part_join xs at a b))
+    ∙ number_append (part xs at a) (part xs (at + a) b)
+    ∙ ap (λ (k : ℕ). number (part xs at a) * 256 ^ k + number (part xs (at + a) b)) (length_part xs (at + a) b (omega (arith, h)))
+
+-- a number of up to eight bytes as two words: a of those before the last four, none where there are no more, and b of the others
+module _ (xs : List ℕ) (at n : ℕ) {low a b : ℕ} (is : low ≡ min n 4) where
+  pub in_words : at + n ≤ length xs → a ≡ number_at xs at (n - low) → b ≡ number_at xs (at + (n - low)) low → a * 4294967296 + b ≡ number_at xs at n
+  in_words h upper lower = go (dec_lt 4 n)
+    where
+      go : Dec (4 < n) → a * 4294967296 + b ≡ number_at xs at n
+      go (yes more) =
+          let four : low ≡ 4 = omega (arith, is) in
+          let all : n - 4 + 4 ≡ n = omega (arith, more) in
+          rw (upper, lower, four) (sym (number_at-split xs at (n - 4) 4 (omega (arith, h))) ∙ ap (number_at xs at) all)
+      go (no less) =
+          let whole : low ≡ n = omega (arith, is, less) in
+          let none : n - n ≡ 0 = omega arith in
+          let same : at + 0 ≡ at = omega arith in
+          rw (upper, lower, whole, none, same, number_at-none xs at) (omega arith)
+
+  pub words_lt : a < 256 ^ (n - low) → b < 256 ^ low → a * 4294967296 + b < 256 ^ n
+  words_lt upper lower = go (dec_lt 4 n)
+    where
+      go : Dec (4 < n) → a * 4294967296 + b < 256 ^ n
+      go (yes more) =
+          let four : low ≡ 4 = omega (arith, is) in
+          let all : n - 4 + 4 ≡ n = omega (arith, more) in
+          rw (ap (λ (k : ℕ). 256 ^ k) (sym all) ∙ pow-add 256 (n - 4) 4) (digits_lt (rw four at upper) (rw four at lower))
+      go (no less) =
+          let whole : low ≡ n = omega (arith, is, less) in
+          let none : n - n ≡ 0 = omega arith in
+          let zero-high : a < 1 = rw (whole, none) at upper in
+          let rest : b < 256 ^ n = rw whole at lower in
+          omega (arith, zero-high, rest)
 
 -- n bytes spell a number below 256 ^ n
 pub number_lt : (xs : List ℕ) → are_bytes xs ≡ true → number xs < 256 ^ length xs

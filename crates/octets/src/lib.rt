@@ -29,19 +29,32 @@ pub fn part(s: &[u8], at: usize, n: usize) -> &[u8]
     &rest[..n.min(rest.len())]
 }
 
+// The number in up to four bytes from a place on.
+fn word(s: &[u8], at: usize, n: usize) -> u32
+    requires width { n ≤ 4 }
+    requires within { at + n ≤ length s.now }
+    ensures value { result ≡ number_at s.now at n }
+    ensures below { result < 256 ^ n }
+{
+    let mut v = 0;
+    for i in 0..n {
+        v = v * 256 + s[at + i] as u32;
+    }
+    v
+}
+
 // The number in the N bytes from a place on. A leaf with a requires: its callers know that the bytes are there, and no answer
-// would serve where they aren't.
+// would serve where they aren't. In two words, of which LLVM makes a load each: of one loop over eight bytes it makes eight loads where a
+// number is read twice (measured: a record replayed in 1.2 to 1.5 times the time).
 pub fn number<const N: usize>(s: &[u8], at: usize) -> u64
     requires width { N ≤ 8 }
     requires within { at + N ≤ length s.now }
     ensures value { result ≡ number_at s.now at N }
     ensures below { result < 256 ^ N }
 {
-    let mut v = 0;
-    for i in 0..N {
-        v = v * 256 + s[at + i] as u64;
-    }
-    v
+    let low = N.min(4);
+    let high = N - low;
+    word(s, at, high) as u64 * 4294967296 + word(s, at + high, low) as u64
 }
 
 // ---- writing

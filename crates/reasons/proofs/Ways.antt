@@ -1,21 +1,20 @@
 -- The reasons of calls, by the check that answers them, over plain values. Assumes nothing.
 use Rattle.std.specs.Prelude.{if◌then◌else◌}
-use Prim.Native.Nat.{ℕ, zero, suc, ◌≤◌}
+use Prim.Native.Nat.{ℕ, zero, suc}
 use mathlib.Core.Path.{◌≡◌, refl, sym, ap, ap₂, ◌∙◌}
-use mathlib.Core.Bool.{Bool, true, false, not, ◌&&◌, cond, false≢true, true≢false}
+use mathlib.Core.Bool.{Bool, true, false}
 use mathlib.Core.Option.{none, some}
-use native.Mathlib.Omega.{arith}
-use lib.Dec.{eqb, ltb}
+use lib.Dec.{eqb}
 use lib.IntN.{pos, ◌-ℤ◌}
-use borrow.Author.Tests.{eq-eqb, ne_eqb, not-true}
-use Rattle.octets.proofs.Tests.{both_left, both_right, and-false}
+use borrow.Author.Tests.{ne_eqb}
+use Rattle.octets.proofs.Tests.{and-false}
 use Rattle.allowance.specs.Meter.{verdict}
 use Rattle.rules.specs.Tables.{Tables}
 use Rattle.rules.specs.Calls.{Call}
 use Rattle.rules.specs.Charges.{charged, price, caller_level}
-use Rattle.rules.specs.Checks.{first_eight, precheck, check}
+use Rattle.rules.specs.Checks.{precheck, check}
 use Rattle.rules.specs.Reasons.{undecided, asked, decided, headroom, explain}
-use Rattle.rules.proofs.Checks.{at_most, check-verdict}
+use Rattle.rules.proofs.Checks.{check-verdict}
 use Rattle.reasons.specs.declared.Named.{Named}
 use Rattle.reasons.specs.declared.Named.TheVariants as named_by
 use Rattle.reasons.specs.Coded.{named, reason_of, coded}

@@ -14,17 +14,19 @@ named rules.undecided = named_by.Nothing
 named (rules.of_lease d) = named_by.Lease (rules.condition_of d)
 named (rules.of_establish d) = named_by.Session (rules.status_of d)
 
--- 1 a done lease, 2 a done establish, 0 anything else
+-- 1 a done lease, 2 a done establish, 0 anything else; another number is told as it stands
 abbrev pub request_of : Named → ℕ
 request_of named_by.Nothing = 0
 request_of (named_by.Lease condition) = 1
 request_of (named_by.Session status) = 2
+request_of (named_by.Other request condition) = request
 
 -- the condition, or the status
 abbrev pub condition_number : Named → ℕ
 condition_number named_by.Nothing = 0
 condition_number (named_by.Lease condition) = condition
 condition_number (named_by.Session status) = status
+condition_number (named_by.Other request condition) = condition
 
 -- "elsewhere it says there is none and reports 0"
 abbrev pub charged_of : Option ℤ → ℕ

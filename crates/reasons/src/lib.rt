@@ -19,12 +19,14 @@ pub struct Reason {
     pub headroom: i64,
 }
 
-// What decided a call: the condition on which a lease is refused, or the status of a session, 0 where all is granted; or nothing.
+// What decided a call: the condition on which a lease is refused, or the status of a session, 0 where all is granted; or nothing. C can be
+// told of any other request and condition too, which no call here makes: what gives a reason promises something for any numbers.
 #[derive(Clone, Copy)]
 pub enum Named {
     Nothing,
     Lease { condition: u32 },
     Session { status: u32 },
+    Other { request: u32, condition: u32 },
 }
 
 impl Named {
@@ -35,6 +37,7 @@ impl Named {
             Named::Nothing => 0,
             Named::Lease { condition } => 1,
             Named::Session { status } => 2,
+            Named::Other { request, condition } => request,
         }
     }
 
@@ -45,6 +48,7 @@ impl Named {
             Named::Nothing => 0,
             Named::Lease { condition } => condition,
             Named::Session { status } => status,
+            Named::Other { request, condition } => condition,
         }
     }
 }

@@ -31,6 +31,10 @@ impl Ledger for TableLedger {
         Allowances::new(&self.table).clock()
     }
 
+    fn partner(&self, connection: u8) -> usize {
+        connection_table::partner_of(connection)
+    }
+
     fn level(&self, partner: usize, time: u64) -> u64 {
         Allowances::new(&self.table).level(partner, time)
     }

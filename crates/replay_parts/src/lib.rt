@@ -4,6 +4,7 @@
 
 ghost use Rattle.std.specs.Prelude.{◌≡◌, ◌<◌, ◌&&◌, ◌||◌, not, leb, ltb, if◌then◌else◌};
 ghost use Rattle.rules.specs.Sizes.{partners, connection_count, time_limit};
+ghost use Rattle.rules.specs.Tables.{partner_of};
 ghost use Rattle.journal.specs.Records.{unrecorded, priced};
 ghost use Rattle.journal.specs.Contradictions.{has_charge, is_free, contradicts};
 ghost use Rattle.journal.specs.Replays.{Ledger, is_contradicted, advance, replay_from, check_replay};
@@ -126,6 +127,10 @@ pub trait Ledger {
     fn clock(&self) -> u64
         ensures { result ≡ ledger.clock self.now };
 
+    // The partner whose connection it is. Each ledger works it out for itself, so that two of them share no arithmetic.
+    fn partner(&self, connection: u8) -> usize
+        ensures { result ≡ partner_of connection };
+
     // What a partner has at a time.
     fn level(&self, partner: usize, time: u64) -> u64
         requires { partner < partners }
@@ -144,7 +149,7 @@ fn is_contradicted<L: Ledger>(ledger: &L, made: Record) -> bool
     if rules::CONNECTION_COUNT as u8 <= made.connection {
         return true;
     }
-    let partner = connection_table::partner_of(made.connection);
+    let partner = ledger.partner(made.connection);
     let level = ledger.level(partner, made.time);
     contradicts(made, ledger.clock(), level)
 }

@@ -31,6 +31,10 @@ impl Ledger for PlainLedger {
         self.clock
     }
 
+    fn partner(&self, connection: u8) -> usize {
+        connection as usize / rules::CONNECTIONS_PER_PARTNER
+    }
+
     // What is filled for it is not kept.
     fn level(&self, partner: usize, time: u64) -> u64 {
         levels::level_after(self.levels[partner], time.saturating_sub(self.clock))
@@ -39,7 +43,7 @@ impl Ledger for PlainLedger {
     // Every level is filled up to the record's time, and its partner's is less by the charge.
     fn settle(&mut self, made: Record) {
         levels::fill_for(&mut self.levels, made.time - self.clock);
-        let partner = connection_table::partner_of(made.connection);
+        let partner = self.partner(made.connection);
         self.levels[partner] -= made.charge as u64;
         self.clock = made.time;
     }

@@ -2,7 +2,7 @@
 use native.Mathlib.Nat.{sub-zero, div-one, div-div-eq-div-mul, pow-suc}
 use native.Mathlib.Numerals.{add-one}
 use native.Mathlib.Omega.{arith}
-use mathlib.Core.Path.{sym, ap, ◌∙◌}
+use mathlib.Core.Path.{sym}
 use mathlib.Core.List.{append-nil}
 use Rattle.octets.specs.Octets.{big_endian}
 use Rattle.octets.proofs.Numbers.{big_endian-next}

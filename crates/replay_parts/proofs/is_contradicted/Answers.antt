@@ -6,4 +6,4 @@ pub returns-then-made : goal.returns-then-made
 returns-then-made g c = unknown_connection_lem g.L.Ledger.ledger _ _ c.if-made.true
 
 pub returns : goal.returns
-returns g c = judged g.L.Ledger.ledger _ _ _ _ _ (rw c.partner_of-partner.ensures at c.level-level.ensures) c.clock.ensures c.contradicts.ensures
+returns g c = judged g.L.Ledger.ledger _ _ _ _ _ (rw c.partner-partner.ensures at c.level-level.ensures) c.clock.ensures c.contradicts.ensures

@@ -1,11 +1,14 @@
--- `is_live_with_id`: both tests.
+-- `is_live_with_id`: both tests, in either order.
+use native.Mathlib.Omega.{arith}
+use Rattle.std.proofs.lemmas.Bool.Decides.{nat_tests}
+use Rattle.std.proofs.lemmas.Grind.{common_steps}
 use Rattle.rules.specs.Tables.{live_with_id}
 use Rattle.lease_table.proofs.Leases.is_live_with_id.Goals as goal
 
-pub returns-then-is_live : goal.returns-then-is_live
+pub returns-then-id_of-id : goal.returns-then-id_of-id
 unfolding live_with_id
-returns-then-is_live c = rw (← c.is_live.ensures, c.if-is_live.true, c.id_of.ensures)
+returns-then-id_of-id c = grind (arith, nat_tests, common_steps)
 
-pub returns-else-is_live : goal.returns-else-is_live
+pub returns-else-id_of-id : goal.returns-else-id_of-id
 unfolding live_with_id
-returns-else-is_live c = rw (← c.is_live.ensures, c.if-is_live.false)
+returns-else-id_of-id c = grind (arith, nat_tests, common_steps)

@@ -4,8 +4,8 @@ use Rattle.replay_plain.proofs.PlainLedgerLedger.settle.Goals as goal
 
 pub overflow_sub-self : goal.overflow_sub-self
 unfolding levels_at
-overflow_sub-self c = rw (c.fill_for.ensures, c.partner_of-partner.ensures) (rw (← c.self.view_is) at c.requires.enough)
+overflow_sub-self c = rw (c.fill_for.ensures, c.partner-partner.ensures) (rw (← c.self.view_is) at c.requires.enough)
 
 pub returns : goal.returns
 unfolding levels_at
-returns c = rw (c.fill_for.ensures, c.partner_of-partner.ensures, ← c.self.view_is)
+returns c = rw (c.fill_for.ensures, c.partner-partner.ensures, ← c.self.view_is)
