@@ -6,7 +6,7 @@
 ghost use Rattle.std.specs.Prelude.{◌≡◌, ◌<◌, List, ℕ, length};
 ghost use Rattle.rules.specs.Sizes.{partners, row_count, leases_size};
 ghost use Rattle.rules.specs.Searches.{end_row};
-ghost use Rattle.rules.specs.Tables.{partner_of, expiry, id_of, holder, cookie_of, live, live_with_id};
+ghost use Rattle.rules.specs.Tables.{partner_of, expiry, id_of, holder_at, holder, cookie_at, cookie_of, live, live_with_id};
 
 use std::marker::Model;
 
@@ -29,12 +29,28 @@ pub fn end_row(partner: usize) -> usize
 
 // ---- the table and the fields of its rows
 
+// Where a row's holder lies.
+fn holder_at(row: usize) -> usize
+    requires { row < row_count }
+    ensures { result ≡ holder_at row }
+{
+    rules::LEASE_BYTES * row + rules::HOLDER_AT
+}
+
+// Where a row's cookie begins.
+fn cookie_at(row: usize) -> usize
+    requires { row < row_count }
+    ensures { result ≡ cookie_at row }
+{
+    rules::LEASE_BYTES * row + rules::COOKIE_AT
+}
+
 // The connection that holds a row of a table of whatever size, or 255.
 pub fn holder(bytes: &[u8], row: usize) -> u8
     requires { row < row_count }
     ensures { result ≡ holder bytes.now row }
 {
-    octets::byte(bytes, rules::LEASE_BYTES * row + rules::HOLDER_AT)
+    octets::byte(bytes, holder_at(row))
 }
 
 // The cookie of a row, of the same tables.
@@ -42,11 +58,7 @@ pub fn cookie_of(bytes: &[u8], row: usize) -> &[u8]
     requires { row < row_count }
     ensures { result.now ≡ cookie_of bytes.now row }
 {
-    octets::part(
-        bytes,
-        rules::LEASE_BYTES * row + rules::COOKIE_AT,
-        svsc::COOKIE,
-    )
+    octets::part(bytes, cookie_at(row), svsc::COOKIE)
 }
 
 // A lease table of the right size.
@@ -85,19 +97,20 @@ impl<'a> Leases<'a> {
         octets::number::<4>(self.bytes, rules::LEASE_BYTES * row + rules::ID_AT) as u32
     }
 
-    // The connection that holds the row, or 255. With the size known, no length is compared in it and in cookie_of, which searches call for each row.
+    // The connection that holds the row, or 255. Searches call this and cookie_of for each row: the size is known, so that no length is
+    // compared there.
     pub fn holder(&self, row: usize) -> u8
         requires { row < row_count }
         ensures { result ≡ holder self.now row }
     {
-        self.bytes[rules::LEASE_BYTES * row + rules::HOLDER_AT]
+        self.bytes[holder_at(row)]
     }
 
     pub fn cookie_of(&self, row: usize) -> &[u8]
         requires { row < row_count }
         ensures { result.now ≡ cookie_of self.now row }
     {
-        let at = rules::LEASE_BYTES * row + rules::COOKIE_AT;
+        let at = cookie_at(row);
         &self.bytes[at..at + svsc::COOKIE]
     }
 
@@ -108,11 +121,11 @@ impl<'a> Leases<'a> {
         time < self.expiry(row)
     }
 
-    // Whether the row is live and has the id. The id first: few rows have it, and its four bytes are compared as they stand.
+    // Whether the row is live and has the id.
     pub fn is_live_with_id(&self, time: u64, id: u32, row: usize) -> bool
         requires { row < row_count }
         ensures { result ≡ live_with_id self.now time id row }
     {
-        self.id_of(row) == id && self.is_live(time, row)
+        self.is_live(time, row) & (self.id_of(row) == id)
     }
 }

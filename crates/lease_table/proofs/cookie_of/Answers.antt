@@ -4,4 +4,4 @@ use Rattle.lease_table.proofs.cookie_of.Goals as goal
 
 pub returns : goal.returns
 unfolding cookie_of
-returns c = c.part.ensures
+returns c = rw (← c.cookie_at.ensures) c.part.ensures

@@ -2,4 +2,4 @@
 use Rattle.lease_table.proofs.holder.Goals as goal
 
 pub returns : goal.returns
-returns c = c.byte.ensures
+returns c = rw (← c.holder_at.ensures) c.byte.ensures
