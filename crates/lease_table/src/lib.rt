@@ -1,6 +1,6 @@
 // The lease table: a partner's rows and their fields.
-// Numbers in range are required where a field is read or a place worked out, and the size of a table of `Leases`: the relay's checks 1 and 3
-// come before anything here is called, and no answer would serve where they fail.
+// Numbers in range are required where a field is read or a place worked out, and the size of a table of `Leases`: the relay's checks 1
+// and 3 come before anything here is called, and no answer would serve where they fail.
 #![tactic(auto)]
 
 ghost use Rattle.std.specs.Prelude.{◌≡◌, ◌<◌, List, ℕ, length};
@@ -97,8 +97,7 @@ impl<'a> Leases<'a> {
         octets::number::<4>(self.bytes, rules::LEASE_BYTES * row + rules::ID_AT) as u32
     }
 
-    // The connection that holds the row, or 255. Searches call this and cookie_of for each row: the size is known, so that no length is
-    // compared there.
+    // The connection that holds the row, or 255. Searches call this and cookie_of: the size is known, so their loops compare no length.
     pub fn holder(&self, row: usize) -> u8
         requires { row < row_count }
         ensures { result ≡ holder self.now row }
@@ -121,7 +120,7 @@ impl<'a> Leases<'a> {
         time < self.expiry(row)
     }
 
-    // Whether the row is live and has the id.
+    // Whether the row is live and has the id. Live first: with the id first, a search over ended rows that have it took twice the time.
     pub fn is_live_with_id(&self, time: u64, id: u32, row: usize) -> bool
         requires { row < row_count }
         ensures { result ≡ live_with_id self.now time id row }

@@ -44,8 +44,8 @@ fn word(s: &[u8], at: usize, n: usize) -> u32
 }
 
 // The number in the N bytes from a place on. A leaf with a requires: its callers know that the bytes are there, and no answer
-// would serve where they aren't. In two words of up to four bytes: a number of a table is one load then, where of one loop over
-// eight bytes LLVM made eight loads of a byte (measured: a record replayed in 1.2 to 1.5 times the time).
+// would serve where they aren't. In two words of up to four bytes: with one loop over eight bytes LLVM read a partner's level and its
+// time byte by byte in `crondelith_replay`, which took 1.1 to 1.5 times as long (measured).
 pub fn number<const N: usize>(s: &[u8], at: usize) -> u64
     requires width { N ≤ 8 }
     requires within { at + N ≤ length s.now }
